@@ -1,10 +1,11 @@
 -- Laws of the moves, over any element type. Assumes nothing.
 use Prim.Native.Nat.{ℕ, zero, suc, _+_, _-_, _<_, _≤_}
 use native.Mathlib.Omega.{arith}
-use mathlib.Core.Path.{_≡_, refl, sym, ap, _∙_, subst}
+use mathlib.Core.Path.{_≡_, refl, sym, ap, _∙_}
 use mathlib.Core.List.{List, [], _∷_, _++_, map, append-assoc}
 use lib.ListN.{length, getD, take, drop, set, length-append, length-drop, List·getD-append}
-use lib.Seq.{slice, slice-empty, slice-cons, length-slice, split-at, take-suc, drop-cons, append-snoc, set-at, length-take-le, getD-take, getD-drop, take-append-le, drop-append-le, take-at, drop-at}
+use lib.Seq.{slice, slice-empty, slice-cons, length-slice, split-at, take-suc, append-snoc, set-at, length-take-le, getD-take}
+use lib.Seq.{take-append-le, drop-append-le, take-at, drop-at}
 use Rattle.places.specs.Moves.{movedUp, firstOff}
 
 module _ {A : Type 0} (l : List A) (from : ℕ) (h : from < length l) where

@@ -1,18 +1,18 @@
--- Document 01, "Both sides of each edge": the cases marked P, in one table under one statement. Assumes nothing.
-use Prim.Native.Nat.{ℕ, zero, suc, _-_}
+-- Document 01, "Both sides of each edge": the cases marked P, in one table under one statement about the definitions. Assumes nothing.
+use Prim.Native.Nat.{ℕ, _-_}
 use mathlib.Core.Path.{_≡_, refl}
-use mathlib.Core.Bool.{Bool, true, false}
 use mathlib.Core.List.{List, [], _∷_, _++_, map}
 use lib.ListN.{length, drop}
-use Rattle.plain.specs.Ops.{Op, put, add, need, move, Request, carry, opOk, valid}
-use Rattle.plain.specs.Queue.{Answer, refused, queued, stepped, executed, committed, waiting, value, waits, unconfirmed}
-use Rattle.plain.specs.Queue.{offerStep, workStep, confirmStep}
-use Rattle.plain.specs.Site.{Site, Call, offer, work, confirm, read, look, fresh, call, act, refusal, classOf, freeSlot, numberQueued, sum}
-use Rattle.plain.proofs.Listing.{answers}
+use Rattle.plain.specs.Ops.{Op, put, add, need, move, carry, opOk, valid}
+use Rattle.plain.specs.Record.{requestIn, isRecord, request}
+use Rattle.plain.specs.Steps.{Answer, queued, stepped, executed, committed, waiting, value, offerStep, workStep, confirmStep}
+use Rattle.plain.specs.Site.{Call, work, confirm, read, fresh, call, act, refusal, classOf, isFree, freeSlot, numberQueued}
+use Rattle.plain.specs.Site.{sum, standing}
+use Rattle.plain.proofs.Written.{fourBytes, opBytes, opsBytes, recordOf, offerOf, answers}
 
 -- request i of class 0; and its whole run as number n: offered, confirmed, worked off
-abbrev req : ℕ → List Op → Call
-req i os = offer (record { id = i; class = 0; ops = os })
+req : ℕ → List Op → Call
+req i os = offerOf i 0 os
 
 works : List Op → List Call
 works [] = []
@@ -37,39 +37,39 @@ table =
     -- cells 100 and 0, move 60 leaves 40 and 60; the same move again declines
     record {
       calls = run 1 (put 0 100 ∷ []) ++ run 2 (move 0 1 60 ∷ []) ++ (read 0 0 ∷ read 0 1 ∷ []) ++ run 3 (move 0 1 60 ∷ []) ++ (read 0 0 ∷ []);
-      end = committed 2 2 false 0 ∷ value 40 ∷ value 60 ∷ queued 3 0 1 0 ∷ waiting 3 1 0 ∷ committed 3 3 true 0 ∷ value 40 ∷ [];
+      end = committed 2 2 0 0 ∷ value 40 ∷ value 60 ∷ queued 3 0 1 0 ∷ waiting 3 1 0 ∷ committed 3 3 1 0 ∷ value 40 ∷ [];
     }
     -- move 1 into 4294967295 declines; move 0 does not
     ∷ record {
       calls = run 1 (put 0 5 ∷ put 1 top ∷ []) ++ run 2 (move 0 1 1 ∷ []) ++ run 3 (move 0 1 0 ∷ []);
-      end = committed 2 2 true 0 ∷ queued 3 0 1 0 ∷ waiting 3 1 0 ∷ committed 3 3 false 0 ∷ [];
+      end = committed 2 2 1 0 ∷ queued 3 0 1 0 ∷ waiting 3 1 0 ∷ committed 3 3 0 0 ∷ [];
     }
     -- add 1 to 4294967295 gives 0
-    ∷ record { calls = run 1 (put 0 top ∷ add 0 1 ∷ []) ++ (read 0 0 ∷ []); end = committed 1 1 false 0 ∷ value 0 ∷ [] }
+    ∷ record { calls = run 1 (put 0 top ∷ add 0 1 ∷ []) ++ (read 0 0 ∷ []); end = committed 1 1 0 0 ∷ value 0 ∷ [] }
     -- need 5 passes at 5 and declines at 4; need 0 passes at 0
-    ∷ record { calls = run 1 (put 0 5 ∷ need 0 5 ∷ []); end = committed 1 1 false 0 ∷ [] }
-    ∷ record { calls = run 1 (put 0 4 ∷ need 0 5 ∷ []); end = committed 1 1 true 0 ∷ [] }
-    ∷ record { calls = run 1 (need 0 0 ∷ []); end = committed 1 1 false 0 ∷ [] }
+    ∷ record { calls = run 1 (put 0 5 ∷ need 0 5 ∷ []); end = committed 1 1 0 0 ∷ [] }
+    ∷ record { calls = run 1 (put 0 4 ∷ need 0 5 ∷ []); end = committed 1 1 1 0 ∷ [] }
+    ∷ record { calls = run 1 (need 0 0 ∷ []); end = committed 1 1 0 0 ∷ [] }
     -- put 8 then a declining need leaves the committed cell
-    ∷ record { calls = run 1 (put 0 3 ∷ []) ++ run 2 (put 0 8 ∷ need 0 9 ∷ []) ++ (read 0 0 ∷ []); end = committed 2 2 true 0 ∷ value 3 ∷ [] }
+    ∷ record { calls = run 1 (put 0 3 ∷ []) ++ run 2 (put 0 8 ∷ need 0 9 ∷ []) ++ (read 0 0 ∷ []); end = committed 2 2 1 0 ∷ value 3 ∷ [] }
     -- queue confirmed, confirmed, waiting, waiting: confirming the fourth puts it third, nothing put back
     ∷ record {
       calls = req 1 (put 0 1 ∷ []) ∷ req 2 (put 0 2 ∷ []) ∷ req 3 (put 0 3 ∷ []) ∷ req 4 (put 0 4 ∷ []) ∷ confirm 1 1 ∷ confirm 2 2 ∷ confirm 4 3 ∷ work 0 ∷ work 0 ∷ work 0 ∷ work 0 ∷ [];
-      end = waiting 4 3 0 ∷ committed 1 1 false 0 ∷ committed 2 2 false 1 ∷ committed 4 3 false 3 ∷ executed 3 ∷ [];
+      end = waiting 4 3 0 ∷ committed 1 1 0 0 ∷ committed 2 2 0 1 ∷ committed 4 3 0 3 ∷ executed 3 ∷ [];
     }
     -- four waiting, the first executed: confirming the fourth makes it head and puts the first back
     ∷ record {
       calls = req 1 (put 0 1 ∷ []) ∷ req 2 (put 0 2 ∷ []) ∷ req 3 (put 0 3 ∷ []) ∷ req 4 (put 0 4 ∷ []) ∷ work 0 ∷ confirm 4 1 ∷ work 0 ∷ work 0 ∷ [];
-      end = executed 1 ∷ waiting 4 1 1 ∷ committed 4 1 false 3 ∷ executed 1 ∷ [];
+      end = executed 1 ∷ waiting 4 1 1 ∷ committed 4 1 0 3 ∷ executed 1 ∷ [];
     }
     -- confirming an active head with 2 of 5 done answers W = 3 and keeps the 2
     ∷ record {
       calls = req 1 (add 0 1 ∷ add 0 1 ∷ add 0 1 ∷ add 0 1 ∷ add 0 1 ∷ []) ∷ work 0 ∷ work 0 ∷ confirm 1 1 ∷ work 0 ∷ work 0 ∷ work 0 ∷ read 0 0 ∷ [];
-      end = waiting 1 3 0 ∷ stepped 1 3 ∷ stepped 1 4 ∷ committed 1 1 false 0 ∷ value 5 ∷ [];
+      end = waiting 1 3 0 ∷ stepped 1 3 ∷ stepped 1 4 ∷ committed 1 1 0 0 ∷ value 5 ∷ [];
     }
     ∷ []
 
 -- each case's last answers are those of the table
 pub cases : map (λ (k : Case). last (length (k .end)) (answers fresh (k .calls))) table ≡ map (λ (k : Case). k .end) table
-unfolding table works run last top answers fresh call act refusal classOf freeSlot numberQueued sum offerStep workStep confirmStep valid opOk carry
+unfolding table works run req last top fourBytes opBytes opsBytes recordOf offerOf answers fresh call act refusal classOf isFree freeSlot numberQueued sum standing offerStep workStep confirmStep requestIn isRecord request valid opOk carry
 cases = refl

@@ -1,45 +1,72 @@
--- Demand 3: a request confirmed with W commits at exactly the W-th accepted work call for its class. Assumes nothing.
-use Prim.Native.Nat.{ℕ, zero, suc, _+_, _-_, _<_, _≤_}
+-- Demand 3: a request confirmed with W commits in that call if W is 0, else at exactly the W-th accepted work call for its class. Assumes nothing.
+use Prim.Native.Nat.{ℕ, _-_, _<_}
 use native.Mathlib.Omega.{arith}
-use mathlib.Core.Path.{_≡_, refl, sym, ap, _∙_, subst}
+use mathlib.Core.Path.{_≡_, refl, sym, ap, _∙_}
 use mathlib.Core.Logic.{_⊎_, inl, inr}
-use mathlib.Core.Bool.{Bool, true, false, cond}
-use mathlib.Core.Option.{Option, none, some}
-use mathlib.Core.List.{List, [], _∷_, _++_}
-use lib.Dec.{eqb}
-use borrow.Author.Tests.{eqb-true, eq-eqb, lt-leb}
-use Rattle.plain.specs.Ops.{Request, runAll}
-use Rattle.plain.specs.Queue.{Entry, Item, Class, Did, Answer, committed, waiting, waits, idIs, line, asks, asked, ending, entryOf, owed, confirmStep, idOf}
-use Rattle.plain.specs.Site.{Site, Call, Outcome, work, confirm, look, call, act, accepts, refusal, classOf, inClass, confirmedAt}
-use Rattle.plain.specs.Sound.{SoundClass, confirmedPart}
-use Rattle.plain.specs.History.{SoundSite, afterFrom, worksFrom}
-use Rattle.plain.proofs.Basics.{Numbered, first-passes, first-any}
-use Rattle.plain.proofs.Steps.{Confirms, at-once, later}
-use Rattle.plain.proofs.Sites.{class-is, Confirmable, confirm-accepted, confirm-both, call-sound}
-use Rattle.plain.proofs.Turn.{costs, Due, Ends, part-first, not-there, due-positive, Turn, turn, from-sound}
+use mathlib.Core.Bool.{true, false}
+use mathlib.Core.Option.{none, some}
+use mathlib.Core.List.{[]}
+use borrow.Author.Tests.{eqb-true, eqb-false, eq-eqb, lt-ltb}
+use Rattle.plain.specs.Queue.{idOf, idIs, entryOf, owed, confirmedPart}
+use Rattle.plain.specs.Steps.{Class, Did, Answer, waiting, toDo, confirmStep}
+use Rattle.plain.specs.Site.{Site, work, confirm, look, call, act, accepts, refusal, classOf, inClass}
+use Rattle.plain.specs.Site.{confirmedAt, commitOf}
+use Rattle.plain.specs.Sound.{SoundClass, SoundSite}
+use Rattle.plain.specs.History.{afterFrom, worksFrom}
+use Rattle.plain.specs.Demands.{Commits, wOf, Waits, Demand3}
+use Rattle.plain.proofs.Queues.{first-any}
+use Rattle.plain.proofs.Confirming.{Confirms, at-once, later}
+use Rattle.plain.proofs.Sites.{class-is, Confirmable, confirm-accepted}
+use Rattle.plain.proofs.Kept.{id-lasts, confirm-both, call-sound}
+use Rattle.plain.proofs.Due.{Due, Ends, Others, part-first, not-there, due-positive}
+use Rattle.plain.proofs.Turn.{Turn, turn, from-sound}
 
-pub Commits : Answer → ℕ → ℕ → Type 0
-Commits a i n = (b : Bool) × (sl : ℕ) × (a ≡ committed i n b sl)
+-- the end of a request is its commit; an answer that speaks of others is not
+ends-commits : (i n : ℕ) (a : Answer) → Ends (idIs i) n a → Commits a i n
+ends-commits i n a e = record {
+  declined = e .it .mark;
+  slot = e .it .slot;
+  says = e .says ∙ rw (eqb-true (idOf (e .it)) i (e .passes), e .at);
+}
 
--- the end of a request is its commit
-ends-commits : (i n : ℕ) (x : Item) (l : List ℕ) → idIs i x ≡ true → line x ≡ n → Commits (ending x l) i n
-unfolding Commits
-ends-commits i n e l h m = (e .declined, e .slot, rw (eqb-true (idOf e) i h, m))
+others-not : (i n : ℕ) (a : Answer) → Others (idIs i) a → Commits a i n → ⊥
+others-not i n a (inl z) c = let k : some i ≡ none = sym (ap commitOf (c .says)) ∙ z in let o : _≡_ {A = ℕ} 0 1 = cc in omega arith
+others-not i n a (inr y) c =
+    let k : some (idOf (y .0)) ≡ some i = sym (ap commitOf (y .2)) ∙ ap commitOf (c .says) in
+    eqb-false (idOf (y .0)) i (y .1) (cc)
 
--- look answers W
-look-says : (s : Site) → SoundSite s → (c i n v : ℕ) (cells : List ℕ) → c < 16 → Due (s .class c) (idIs i) n cells v → call s (look i) .answer ≡ waits v
-unfolding call act refusal
-look-says s w c i n v cells l u =
-    let r = part-first (idIs i) 0 (s .confirmations) (s .class c .queue) (u .before) (u .it) (u .behind) (w .each c l .order) (u .is) (u .first-one) (u .passes) in
-    let cl : classOf s i ≡ c = class-is s i c w l (first-any (idIs i) (idIs i) (s .class c .queue) (u .it) (r .0) (u .passes)) in
-    rw (cl, lt-leb 16 c l, r .0, r .2, r .1, u .w-is)
+-- the request as it stands, and what look answers
+module _ (s : Site) (w : SoundSite s) (c i n v : ℕ) (l : c < 16) (u : Due (s .class c) (idIs i) n v) where
+  is-there : entryOf i (s .class c .queue) ≡ some (u .it)
+  is-there =
+      part-first (idIs i) 0 (s .confirmations) (s .class c .queue) (u .before) (u .it) (u .behind) (w .each c l .order) (u .is) (u .first-one) (u .passes) .0
 
--- The start: an accepted confirmation
-start : (c top i n : ℕ) (k : Class) (d : Did) → SoundClass c top k → SoundClass c n (d .class) → confirmedAt (entryOf i (k .queue)) ≡ false → Confirms i n k d
-    → Commits (d .answer) i n ⊎ ((W : ℕ) × (back : ℕ) × (d .answer ≡ waiting i W back) × Due (d .class) (idIs i) n (runAll (k .committed) (asked (confirmedPart (k .queue)))) W)
-unfolding Commits
-start c top i n k d s s′ f (at-once x b sl en p p′ r a) = inl (b, sl, a)
-start c top i n k d s s′ f (later x y back en m p z a) =
+  look-says : call s (look i) .answer ≡ toDo v
+  unfolding call act refusal
+  look-says =
+      let r = part-first (idIs i) 0 (s .confirmations) (s .class c .queue) (u .before) (u .it) (u .behind) (w .each c l .order) (u .is) (u .first-one) (u .passes) in
+      let cl : classOf s i ≡ c = class-is s i c w l (first-any (idIs i) (idIs i) (s .class c .queue) (u .it) (r .0) (u .passes)) in
+      rw (cl, lt-ltb c 16 l, r .0, r .2, r .1, u .w-is)
+
+waits-turn : (s : Site) → SoundSite s → (c i n W x : ℕ) → c < 16 → Turn (idIs i) n s c W x → Waits s c i n W x
+waits-turn s w c i n W x l t = record {
+  it = t .due .it;
+  queued = is-there s w c i n (W - x) l (t .due);
+  number = t .due .at;
+  says = look-says s w c i n (W - x) l (t .due);
+  works = t .works;
+  commits = λ e. ends-commits i n _ (t .ends e);
+  no-sooner = λ m. others-not i n _ (t .others m);
+}
+
+-- The start: an accepted confirmation commits, or the request is due
+abbrev Started : ℕ → ℕ → Did → Type 0
+Started i n d = Commits (d .answer) i n ⊎ ((W : ℕ) × (back : ℕ) × (d .answer ≡ waiting i W back) × Due (d .class) (idIs i) n W)
+
+start : (c top i n : ℕ) (k : Class) (d : Did) → SoundClass c top k → SoundClass c n (d .class) → confirmedAt (entryOf i (k .queue)) ≡ false
+    → Confirms i n k d → Started i n d
+start c top i n k d s s′ f (at-once x b sl en p p′ r a t) = inl (record { declined = b; slot = sl; says = a })
+start c top i n k d s s′ f (later x y back en m e p z a t) =
     let no = not-there (idIs i) 0 top (k .queue) (s .order) f in
     let r = part-first (idIs i) 0 n (d .class .queue) (confirmedPart (k .queue)) y [] (s′ .order) p no (m .id) in
     inr (
@@ -54,42 +81,13 @@ start c top i n k d s s′ f (later x y back en m p z a) =
         first-one = no;
         passes = m .id;
         at = m .line-is;
-        gives = rw z;
         w-is = sym (r .1);
       },
     )
 
--- DEMAND 3. What holds after any further calls h, x of which were accepted work calls for class c, as long as x is less than W
-pub record Waits (s : Site) (c i n : ℕ) (cells : List ℕ) (W x : ℕ) : Type 0 where
-  -- the request is still queued, confirmed as n, with W - x operations to do by it and by all before it
-  pub due : Due (s .class c) (idIs i) n cells (W - x)
-  pub says : call s (look i) .answer ≡ waits (W - x)
-  -- a work call is not refused
-  pub works : accepts s (work c) ≡ true
-  -- and if it is the W-th it commits the request
-  pub commits : suc x ≡ W → Commits (call s (work c) .answer) i n
-
-pub record Demand3 (s : Site) (c i n : ℕ) (o : Outcome) : Type 0 where
-  pub W : ℕ
-  pub back : ℕ
-  -- the committed cells that its commit will find
-  pub cells : List ℕ
-  pub answers : o .answer ≡ waiting i W back
-  pub positive : 0 < W
-  pub then : (h : List Call) → worksFrom (o .site) c h < W → Waits (afterFrom (o .site) h) c i n cells W (worksFrom (o .site) c h)
-
-waits-turn : (s : Site) → SoundSite s → (c i n : ℕ) (cells : List ℕ) (W x : ℕ) → c < 16 → Turn (idIs i) n cells s c W x → Waits s c i n cells W x
-unfolding Commits
-waits-turn s w c i n cells W x l t = record {
-  due = t .due;
-  says = look-says s w c i n (W - x) cells l (t .due);
-  works = t .works;
-  commits = λ e. let z = t .ends e in let y = ends-commits i n (z .it) (runAll cells (asks (z .it))) (z .passes) (z .at) in (y .0, y .1, z .says ∙ y .2);
-}
-
--- From any sound site (so from any history), an accepted confirmation commits the request in that call, or answers W > 0 and demand 3 holds from there on
+-- DEMAND 3: on any sound site, so after any history
 pub demand-3 : (s : Site) → SoundSite s → (i n : ℕ) → accepts s (confirm i n) ≡ true
-    → Commits (call s (confirm i n) .answer) i n ⊎ Demand3 s (classOf s i) i n (call s (confirm i n))
+    → Demand3 (classOf s i) i n (call s (confirm i n))
 unfolding call act
 demand-3 s w i n a = rw a (go (start c (s .confirmations) i n (s .class c) x (w .each c f.known) (b .0) f.waits (b .1)))
   where
@@ -111,18 +109,11 @@ demand-3 s w i n a = rw a (go (start c (s .confirmations) i n (s .class c) x (w 
     w′ : SoundSite s′
     w′ = rw a at (call-sound s (confirm i n) w)
 
-    to : List ℕ
-    to = runAll (s .class c .committed) (asked (confirmedPart (s .class c .queue)))
-
-    go : Commits (x .answer) i n ⊎ ((W : ℕ) × (back : ℕ) × (x .answer ≡ waiting i W back) × Due (x .class) (idIs i) n to W)
-        → Commits (x .answer) i n ⊎ Demand3 s c i n (inClass s c 1 x)
-    go (inl y) = inl y
-    go (inr y) = inr (record {
-      W = y .0;
-      back = y .1;
-      cells = to;
-      answers = y .2;
-      positive = due-positive (idIs i) n to c n (x .class) (y .0) (b .0) (y .3);
-      then = λ h m. waits-turn (afterFrom s′ h) (from-sound s′ w′ h) c i n to (y .0) (worksFrom s′ c h) f.known
-          (turn (idIs i) (λ e t. refl) n to s′ w′ c (y .0) f.known (rw (eq-eqb c c refl) (y .3)) h m);
-    })
+    go : Started i n x → Demand3 c i n (inClass s c 1 x)
+    go (inl y) = record { at-once = λ z. y; later = λ z. absurd (omega (arith, ap wOf (y .says))) }
+    go (inr y) = record {
+      at-once = λ z. absurd (omega (arith, ap wOf (y .2), due-positive (idIs i) n c n (x .class) (y .0) (b .0) (y .3)));
+      later = λ z h m. let e : wOf (x .answer) ≡ y .0 = ap wOf (y .2) in
+          rw e (waits-turn (afterFrom s′ h) (from-sound s′ w′ h) c i n (y .0) (worksFrom s′ c h) f.known
+          (turn (idIs i) (id-lasts i) n s′ w′ c (y .0) f.known (rw (eq-eqb c c refl) (y .3)) h (rw e at m)));
+    }

@@ -1,19 +1,19 @@
--- One class: its queue, its committed and its working cells, and the steps of document 01 on them. Assumes nothing.
-use Prim.Native.Nat.{ℕ, suc, _+_, _-_}
-use mathlib.Core.Bool.{Bool, true, false, not, cond, _&&_, _||_}
-use mathlib.Core.Option.{Option, none, some, Option·getD}
+-- What stands in the queue of a class, and how a queue is looked through. Assumes nothing.
+use Prim.Native.Nat.{ℕ, _+_, _-_}
+use mathlib.Core.Bool.{Bool, false, cond, _&&_, _||_}
+use mathlib.Core.Option.{Option, none, some}
 use mathlib.Core.List.{List, [], _∷_, _++_}
 use lib.Dec.{leb, ltb, eqb}
-use lib.ListN.{length, getD}
-use Rattle.plain.specs.Ops.{Op, put, Request, carry, isNone}
+use lib.ListN.{length}
+use Rattle.plain.specs.Ops.{Op, Request}
 
--- a queued request: number 0 while it waits, the definitive number once it is confirmed
+-- a queued request: number 0 while it waits, the definitive number once it is confirmed; mark 1 if it has declined, else 0
 pub record Entry : Type 0 where
   pub request : Request
   pub slot : ℕ
   pub number : ℕ
   pub done : ℕ
-  pub declined : Bool
+  pub mark : ℕ
 
 abbrev pub idOf : Entry → ℕ
 idOf e = e .request .id
@@ -21,6 +21,7 @@ idOf e = e .request .id
 abbrev pub opsOf : Entry → List Op
 opsOf e = e .request .ops
 
+-- executed when all its operations are done
 abbrev pub isExecuted : Entry → Bool
 isExecuted e = leb (length (opsOf e)) (e .done)
 
@@ -28,12 +29,15 @@ isExecuted e = leb (length (opsOf e)) (e .done)
 abbrev pub Item : Type 0
 Item = Entry
 
--- has it this id? this slot?
+-- has it this id? this slot? this definitive number?
 abbrev pub idIs : ℕ → Item → Bool
 idIs i e = eqb (idOf e) i
 
 abbrev pub slotIs : ℕ → Item → Bool
 slotIs i e = eqb (e .slot) i
+
+abbrev pub numberIs : ℕ → Item → Bool
+numberIs n e = ltb 0 n && eqb (e .number) n
 
 abbrev pub isConfirmed : Item → Bool
 isConfirmed e = ltb 0 (e .number)
@@ -46,7 +50,7 @@ line e = e .number
 abbrev pub left : Item → ℕ
 left e = length (opsOf e) - e .done
 
--- the request it asks to carry out
+-- the requests that it asks to carry out, and those of a queue
 abbrev pub asks : Item → List Request
 asks e = e .request ∷ []
 
@@ -54,34 +58,12 @@ abbrev pub asked : List Item → List Request
 asked [] = []
 asked (x ∷ q) = asks x ++ asked q
 
--- a class
-pub record Class : Type 0 where
-  pub queue : List Item
-  pub committed : List ℕ
-  pub working : List ℕ
-
-pub data Answer : Type 0 where
-  refused : (reason : ℕ) → Answer
-  queued : (id class place slot : ℕ) → Answer
-  stepped : (id done : ℕ) → Answer
-  executed : (id : ℕ) → Answer
-  committed : (id number : ℕ) (declined : Bool) (slot : ℕ) → Answer
-  waiting : (id w putBack : ℕ) → Answer
-  value : (cell : ℕ) → Answer
-  waits : (w : ℕ) → Answer
-  unconfirmed : Answer
-
--- a step's outcome in a class
-pub record Did : Type 0 where
-  pub class : Class
-  pub answer : Answer
-
--- does one pass the test? how many do? the first that does; the queue without it; the work calls up to its end
+-- Of a queue, by a test: does one pass it? how many do? the first that does; the queue without that one; the work calls up to that one's end
 abbrev pub any : (Item → Bool) → List Item → Bool
 any f [] = false
 any f (x ∷ q) = f x || any f q
 
-abbrev pub count : (Item → Bool) → List Item → ℕ
+abbrev pub count : {A : Type 0} → (A → Bool) → List A → ℕ
 count f [] = 0
 count f (x ∷ q) = cond (f x) 1 0 + count f q
 
@@ -110,91 +92,12 @@ without i q = dropOf (idIs i) q
 abbrev pub owed : ℕ → List Item → ℕ
 owed i q = upTo (idIs i) q
 
--- the queue with e directly before the first waiting request
+-- the confirmed ones of a queue
+abbrev pub confirmedPart : List Item → List Item
+confirmedPart [] = []
+confirmedPart (x ∷ q) = cond (isConfirmed x) (x ∷ confirmedPart q) (confirmedPart q)
+
+-- the queue with e directly before the first waiting one
 abbrev pub beforeWaiting : Item → List Item → List Item
 beforeWaiting e [] = e ∷ []
 beforeWaiting e (x ∷ q) = cond (isConfirmed x) (x ∷ beforeWaiting e q) (e ∷ x ∷ q)
-
--- Commit. The working cells become the committed ones, the next request is the head
-abbrev pub ending : Item → List ℕ → Answer
-ending e w = committed (idOf e) (e .number) (e .declined) (e .slot)
-
-abbrev pub commit : Item → List Item → List ℕ → Did
-commit x rest w = record {
-  class = record { queue = rest; committed = w; working = w };
-  answer = ending x w;
-}
-
--- Offer. The request joins the end of the queue, waiting
-abbrev pub newEntry : Request → ℕ → Entry
-newEntry r slot = record { request = r; slot = slot; number = 0; done = 0; declined = false }
-
-unfoldable pub offerStep : Request → ℕ → Class → Did
-offerStep r slot k = record {
-  class = record { queue = k .queue ++ (newEntry r slot ∷ []); committed = k .committed; working = k .working };
-  answer = queued (r .id) (r .class) (length (k .queue) + 1) slot;
-}
-
--- Work. The head does its next operation; one that has declined changes nothing any more
-abbrev pub tried : Entry → List ℕ → Option (List ℕ)
-tried e w = cond (e .declined) none (carry (getD (opsOf e) (e .done) (put 0 0)) w)
-
-abbrev pub advanced : Entry → Option (List ℕ) → Entry
-advanced e t = record { request = e .request; slot = e .slot; number = e .number; done = suc (e .done); declined = isNone t }
-
-abbrev pub worked : Entry → List Item → List ℕ → List ℕ → Did
-worked e rest base w =
-    cond (isExecuted e)
-    (cond (isConfirmed e)
-    (commit e rest w)
-    (record { class = record { queue = e ∷ rest; committed = base; working = w }; answer = executed (idOf e) }))
-    (record { class = record { queue = e ∷ rest; committed = base; working = w }; answer = stepped (idOf e) (e .done) })
-
-abbrev pub workOn : List Item → List ℕ → List ℕ → Did
-workOn [] base w = record { class = record { queue = []; committed = base; working = w }; answer = refused 11 }
-workOn (e ∷ rest) base w =
-    worked (advanced e (tried e w)) rest base (Option·getD (tried e w) base)
-
-unfoldable pub workStep : Class → Did
-workStep k = workOn (k .queue) (k .committed) (k .working)
-
--- work is refused with 11 where the queue is empty or its head executed
-abbrev pub idle : List Item → Bool
-idle [] = true
-idle (e ∷ rest) = isExecuted e
-
--- Confirm
-abbrev pub numbered : ℕ → Item → Item
-numbered n e = record { request = e .request; slot = e .slot; number = n; done = e .done; declined = e .declined }
-
-abbrev pub putBack : Item → Item
-putBack e = record { request = e .request; slot = e .slot; number = e .number; done = 0; declined = false }
-
--- a waiting head is put back, and the working cells become the committed ones: the head, the cells, and the id put back or 0
-abbrev pub backed : Item → Item
-backed x = cond (isConfirmed x) x (putBack x)
-
-abbrev pub backCells : Item → List ℕ → List ℕ → List ℕ
-backCells x base w = cond (isConfirmed x) w base
-
-abbrev pub backId : Item → ℕ
-backId x = cond (isConfirmed x) 0 (idOf x)
-
--- the confirmed request moves to directly before the first waiting one
-abbrev pub moved : ℕ → ℕ → List Item → List Item
-moved i n q = elim (entryOf i q) [ none ↦ q | some e ↦ beforeWaiting (numbered n e) (without i q) ]
-
-abbrev pub told : ℕ → ℕ → List Item → List ℕ → List ℕ → Did
-told i back q base w = record { class = record { queue = q; committed = base; working = w }; answer = waiting i (owed i q) back }
-
-abbrev pub confirmOn : ℕ → ℕ → List Item → List ℕ → List ℕ → Did
-confirmOn i n [] base w = told i 0 [] base w
-confirmOn i n (x ∷ rest) base w =
-    cond (idIs i x)
-    (cond (isExecuted x)
-    (commit (numbered n x) rest w)
-    (told i 0 (moved i n (x ∷ rest)) base w))
-    (told i (backId x) (moved i n (backed x ∷ rest)) base (backCells x base w))
-
-unfoldable pub confirmStep : ℕ → ℕ → Class → Did
-confirmStep i n k = confirmOn i n (k .queue) (k .committed) (k .working)

@@ -1,13 +1,16 @@
--- A site: 16 classes and two counts, its calls, the refusals of document 01's table, and what an accepted call does. Assumes nothing.
-use Prim.Native.Nat.{ℕ, zero, suc, _+_, _-_, _^_}
-use mathlib.Core.Bool.{Bool, true, false, not, cond, _&&_, _||_}
-use mathlib.Core.Option.{Option, none, some, Option·getD}
-use mathlib.Core.List.{List, [], _∷_, _++_}
+-- A site: 16 classes and two counts; its calls; document 01's table of refusals; what an accepted call does. Assumes nothing.
+use Prim.Native.Nat.{ℕ, zero, suc, _+_}
+use mathlib.Core.Bool.{Bool, true, false, not, cond}
+use mathlib.Core.Option.{Option, none, some}
+use mathlib.Core.List.{List, [], _∷_}
 use lib.Dec.{leb, ltb, eqb}
-use lib.ListN.{length, getD, replicate}
-use Rattle.plain.specs.Ops.{Op, Request, carry, valid, cell}
-use Rattle.plain.specs.Queue.{Entry, Class, Answer, Did, refused, queued, stepped, executed, committed, waiting, value, waits, unconfirmed}
-use Rattle.plain.specs.Queue.{Item, slotIs, isConfirmed, asked, any, idOf, has, entryOf, owed, idle, offerStep, workStep, confirmStep}
+use lib.ListN.{length, replicate}
+use Rattle.plain.specs.Sizes.{classCount, cellCount, slotCount, lastNumber}
+use Rattle.plain.specs.Ops.{cell}
+use Rattle.plain.specs.Record.{request, requestIn}
+use Rattle.plain.specs.Queue.{Item, slotIs, isConfirmed, count, has, entryOf, owed, asked}
+use Rattle.plain.specs.Steps.{Class, Did, Answer, refused, queued, stepped, executed, committed, waiting}
+use Rattle.plain.specs.Steps.{value, toDo, unconfirmed, idle, offerStep, workStep, confirmStep, classWith}
 
 pub record Site : Type 0 where
   pub class : ℕ → Class
@@ -15,13 +18,15 @@ pub record Site : Type 0 where
   pub commits : ℕ
 
 abbrev pub zeros : List ℕ
-zeros = replicate 64 0
+zeros = replicate cellCount 0
 
+-- FRESH. No request queued, both counts 0, all cells 0
 unfoldable pub fresh : Site
-fresh = record { class = λ c. record { queue = []; committed = zeros; working = zeros }; confirmations = 0; commits = 0 }
+fresh = record { class = λ c. classWith [] zeros zeros; confirmations = 0; commits = 0 }
 
+-- a call with its arguments: a record's bytes, a class, an id and a number, a class and a cell, an id
 pub data Call : Type 0 where
-  offer : Request → Call
+  offer : (bytes : List ℕ) → Call
   work : (class : ℕ) → Call
   confirm : (id number : ℕ) → Call
   read : (class cell : ℕ) → Call
@@ -32,19 +37,21 @@ abbrev pub lowest : (ℕ → Bool) → ℕ → ℕ → ℕ
 lowest p from zero = from
 lowest p from (suc count) = cond (p from) from (lowest p (suc from) count)
 
--- the class in whose queue the id stands, 16 if none
-unfoldable pub classOf : Site → ℕ → ℕ
-classOf s i = lowest (λ c. has i (s .class c .queue)) 0 16
-
+-- the sum over the numbers below n
 unfoldable pub sum : (ℕ → ℕ) → ℕ → ℕ
 sum f zero = 0
 sum f (suc n) = sum f n + f n
 
-unfoldable pub freeSlot : Site → ℕ
-freeSlot s = lowest (λ i. eqb (lowest (λ c. any (slotIs i) (s .class c .queue)) 0 16) 16) 0 128
+-- how many of the site's requests pass a test
+unfoldable pub standing : (Item → Bool) → Site → ℕ
+standing f s = sum (λ c. count f (s .class c .queue)) classCount
 
-unfoldable pub numberQueued : Site → ℕ
-numberQueued s = sum (λ c. length (asked (s .class c .queue))) 16
+-- the class in whose queue the id stands, 16 if none; is the id queued? the request queued under it
+unfoldable pub classOf : Site → ℕ → ℕ
+classOf s i = lowest (λ c. has i (s .class c .queue)) 0 classCount
+
+abbrev pub isQueued : Site → ℕ → Bool
+isQueued s i = ltb (classOf s i) classCount
 
 abbrev pub entryAt : Site → ℕ → Option Item
 entryAt s i = entryOf i (s .class (classOf s i) .queue)
@@ -53,29 +60,52 @@ abbrev pub confirmedAt : Option Item → Bool
 confirmedAt none = false
 confirmedAt (some x) = isConfirmed x
 
+-- does the slot stand in no queue? the lowest-numbered free slot
+unfoldable pub isFree : Site → ℕ → Bool
+isFree s i = eqb (standing (slotIs i) s) 0
+
+unfoldable pub freeSlot : Site → ℕ
+freeSlot s = lowest (isFree s) 0 slotCount
+
+unfoldable pub numberQueued : Site → ℕ
+numberQueued s = sum (λ c. length (asked (s .class c .queue))) classCount
+
+-- THE TABLE OF REFUSALS: for each call the tests and the number that each gives, the smallest number first.
+-- Numbers 1 and 2 speak of runs of cells and of soundness, and stand where those are; 13 belongs to the driving program
+abbrev pub missing : {A : Type 0} → Option A → Bool
+missing none = true
+missing (some x) = false
+
+abbrev pub tests : Site → Call → List (Bool × ℕ)
+tests s (offer b) =
+    (missing (request b), 3) ∷ (isQueued s (requestIn b .id), 4) ∷ (leb slotCount (numberQueued s), 5) ∷ []
+tests s (work c) = (leb classCount c, 10) ∷ (idle (s .class c .queue), 11) ∷ []
+tests s (confirm i n) =
+    (leb lastNumber (s .confirmations), 6)
+    ∷ (not (eqb n (s .confirmations + 1)), 7)
+    ∷ (not (isQueued s i), 8)
+    ∷ (confirmedAt (entryAt s i), 9)
+    ∷ []
+tests s (read c k) = (leb classCount c, 10) ∷ (leb cellCount k, 12) ∷ []
+tests s (look i) = (not (isQueued s i), 8) ∷ []
+
 -- the first of the tests that holds gives its number; 0 if none does
 abbrev pub first : List (Bool × ℕ) → ℕ
 first [] = 0
 first (t ∷ ts) = cond (t .0) (t .1) (first ts)
 
--- the table of refusals: when a call is refused, and by which number
-abbrev pub tests : Site → Call → List (Bool × ℕ)
-tests s (offer r) = (not (valid r), 3) ∷ (ltb (classOf s (r .id)) 16, 4) ∷ (leb 128 (numberQueued s), 5) ∷ []
-tests s (work c) = (ltb 15 c, 10) ∷ (idle (s .class c .queue), 11) ∷ []
-tests s (confirm i n) =
-    (leb (2 ^ 32 - 1) (s .confirmations), 6) ∷ (not (eqb n (s .confirmations + 1)), 7) ∷ (leb 16 (classOf s i), 8) ∷ (confirmedAt (entryAt s i), 9) ∷ []
-tests s (read c k) = (ltb 15 c, 10) ∷ (ltb 63 k, 12) ∷ []
-tests s (look i) = (leb 16 (classOf s i), 8) ∷ []
-
 -- the number by which a call is refused, 0 if it is accepted
 unfoldable pub refusal : Site → Call → ℕ
 refusal s k = first (tests s k)
+
+abbrev pub accepts : Site → Call → Bool
+accepts s k = eqb (refusal s k) 0
 
 pub record Outcome : Type 0 where
   pub site : Site
   pub answer : Answer
 
--- the id that an answer says was committed
+-- the id that an answer says was committed, and how many commits that makes
 abbrev pub commitOf : Answer → Option ℕ
 commitOf (refused n) = none
 commitOf (queued i c p s) = none
@@ -84,36 +114,39 @@ commitOf (executed i) = none
 commitOf (committed i n d s) = some i
 commitOf (waiting i w b) = none
 commitOf (value x) = none
-commitOf (waits w) = none
+commitOf (toDo w) = none
 commitOf unconfirmed = none
 
 abbrev pub commitsBy : Answer → ℕ
 commitsBy a = elim (commitOf a) [ none ↦ 0 | some i ↦ 1 ]
 
--- a step in one class
+-- a step in one class, with so many confirmations more
 abbrev pub atClass : ℕ → Class → (ℕ → Class) → ℕ → Class
 atClass c k f d = cond (eqb d c) k (f d)
 
 abbrev pub inClass : Site → ℕ → ℕ → Did → Outcome
 inClass s c more d = record {
-  site = record { class = atClass c (d .class) (s .class); confirmations = s .confirmations + more; commits = s .commits + commitsBy (d .answer) };
+  site = record {
+    class = atClass c (d .class) (s .class);
+    confirmations = s .confirmations + more;
+    commits = s .commits + commitsBy (d .answer);
+  };
   answer = d .answer;
 }
 
+-- LOOK. W for a confirmed request, or that it is unconfirmed
 abbrev pub lookAnswer : ℕ → Class → Answer
-lookAnswer i k = cond (confirmedAt (entryOf i (k .queue))) (waits (owed i (k .queue))) unconfirmed
+lookAnswer i k = cond (confirmedAt (entryOf i (k .queue))) (toDo (owed i (k .queue))) unconfirmed
 
 -- what an accepted call does
 unfoldable pub act : Site → Call → Outcome
-act s (offer r) = inClass s (r .class) 0 (offerStep r (freeSlot s) (s .class (r .class)))
+act s (offer b) =
+    inClass s (requestIn b .class) 0 (offerStep (requestIn b) (freeSlot s) (s .class (requestIn b .class)))
 act s (work c) = inClass s c 0 (workStep (s .class c))
 act s (confirm i n) = inClass s (classOf s i) 1 (confirmStep i n (s .class (classOf s i)))
 act s (read c k) = record { site = s; answer = value (cell (s .class c .committed) k) }
 act s (look i) = record { site = s; answer = lookAnswer i (s .class (classOf s i)) }
 
-abbrev pub accepts : Site → Call → Bool
-accepts s k = eqb (refusal s k) 0
-
--- a call: refused, or done
+-- A CALL: refused under its number with nothing changed, or done
 unfoldable pub call : Site → Call → Outcome
 call s k = cond (accepts s k) (act s k) (record { site = s; answer = refused (refusal s k) })

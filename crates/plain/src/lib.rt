@@ -1,4 +1,1 @@
-// The theory only: see specs/.
-pub fn nothing(x: u8) -> u8 {
-    x
-}
+// The theory only: definitions in specs/, laws in proofs/.

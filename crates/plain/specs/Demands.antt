@@ -1,0 +1,91 @@
+-- What the mission demands of the steps, and what document 01 says besides, as statements about sites and histories. Assumes nothing.
+use Prim.Native.Nat.{ℕ, suc, _-_, _<_}
+use mathlib.Core.Path.{_≡_}
+use mathlib.Core.Bool.{true}
+use mathlib.Core.Option.{some}
+use mathlib.Core.List.{List, [], _∷_}
+use lib.ListN.{length, take}
+use Rattle.plain.specs.Ops.{Request, runAll}
+use Rattle.plain.specs.Record.{requestIn}
+use Rattle.plain.specs.Queue.{Entry, entryOf}
+use Rattle.plain.specs.Steps.{Answer, refused, queued, stepped, executed, committed, waiting, value, toDo, unconfirmed}
+use Rattle.plain.specs.Site.{Site, Call, Outcome, offer, work, confirm, read, look, zeros, call, accepts}
+use Rattle.plain.specs.Site.{classOf, isFree, isQueued}
+use Rattle.plain.specs.Sizes.{slotCount}
+use Rattle.plain.specs.Sound.{SoundSite}
+use Rattle.plain.specs.History.{after, afterFrom, worksFrom, confirmedIn, committedIn}
+
+-- DEMAND 2, of class c after a history from fresh: its committed cells are those got by running its committed requests one after another, and
+-- these are the first confirmed ones of the class in definitive order
+pub record Demand2 (h : List Call) (c : ℕ) : Type 0 where
+  pub serial : after h .class c .committed ≡ runAll zeros (committedIn c h)
+  pub first-confirmed : committedIn c h ≡ take (length (committedIn c h)) (confirmedIn c h)
+
+-- the numbers of a log of confirmations are m + 1, m + 2, ..
+abbrev pub Counted : ℕ → List (ℕ × Request) → Type 0
+Counted m [] = Unit
+Counted m (p ∷ ps) = (p .0 ≡ suc m) × Counted (suc m) ps
+
+-- the answer says that the request i is committed under number n
+pub record Commits (a : Answer) (i n : ℕ) : Type 0 where
+  pub declined : ℕ
+  pub slot : ℕ
+  pub says : a ≡ committed i n declined slot
+
+-- the W of an accepted confirmation's answer: 0 for a commit
+abbrev pub wOf : Answer → ℕ
+wOf (waiting i w b) = w
+wOf (committed i n d s) = 0
+wOf (refused n) = 0
+wOf (queued i c p s) = 0
+wOf (stepped i d) = 0
+wOf (executed i) = 0
+wOf (value x) = 0
+wOf (toDo w) = 0
+wOf unconfirmed = 0
+
+-- What holds on a site after x accepted work calls for class c, of the W that the confirmation of i under n answered, while x is less than W
+pub record Waits (s : Site) (c i n W x : ℕ) : Type 0 where
+  -- the request is still queued there, confirmed under its number
+  pub it : Entry
+  pub queued : entryOf i (s .class c .queue) ≡ some it
+  pub number : it .number ≡ n
+  -- look answers exactly what is left: no other call adds to it, and none puts the request back
+  pub says : call s (look i) .answer ≡ toDo (W - x)
+  -- a work call for the class is not refused
+  pub works : accepts s (work c) ≡ true
+  -- and it commits the request exactly if it is the W-th
+  pub commits : suc x ≡ W → Commits (call s (work c) .answer) i n
+  pub no-sooner : suc x < W → Commits (call s (work c) .answer) i n → ⊥
+
+-- DEMAND 3, of an accepted confirmation of i under n and its outcome o: if W is 0 the request commits in that call; otherwise after any further
+-- calls, as long as fewer than W of them were accepted work calls for its class, it waits
+pub record Demand3 (c i n : ℕ) (o : Outcome) : Type 0 where
+  pub at-once : wOf (o .answer) ≡ 0 → Commits (o .answer) i n
+  pub later : 0 < wOf (o .answer) → (h : List Call) → worksFrom (o .site) c h < wOf (o .answer)
+      → Waits (afterFrom (o .site) h) c i n (wOf (o .answer)) (worksFrom (o .site) c h)
+
+-- the class in which a call works
+abbrev pub home : Site → Call → ℕ
+home s (offer b) = requestIn b .class
+home s (work c) = c
+home s (confirm i n) = classOf s i
+home s (read c k) = c
+home s (look i) = classOf s i
+
+-- What an offer or a confirmation in class c shares with the other classes: sites that agree in class c and in these four things
+pub record Shares (s t : Site) (c : ℕ) : Type 0 where
+  pub class : s .class c ≡ t .class c
+  -- free slots
+  pub free : (i : ℕ) → i < slotCount → isFree s i ≡ isFree t i
+  -- ids in use
+  pub ids : (i : ℕ) → isQueued s i ≡ isQueued t i
+  -- the next number
+  pub next : s .confirmations ≡ t .confirmations
+  -- soundness
+  pub sound : SoundSite s × SoundSite t
+
+-- on both sites a call answers alike and changes class c alike
+pub record ActAlike (s t : Site) (c : ℕ) (k : Call) : Type 0 where
+  pub answer : call s k .answer ≡ call t k .answer
+  pub class : call s k .site .class c ≡ call t k .site .class c

@@ -1,0 +1,40 @@
+-- The sizes of document 01, each under its name. Assumes nothing.
+use Prim.Native.Nat.{ℕ, _^_}
+
+-- classes are 0 to 15
+abbrev pub classCount : ℕ
+classCount = 16
+
+-- the cells of a class are 0 to 63
+abbrev pub cellCount : ℕ
+cellCount = 64
+
+-- slots are 0 to 127, shared by all classes
+abbrev pub slotCount : ℕ
+slotCount = 128
+
+-- a request has 1 to 7 operations
+abbrev pub mostOps : ℕ
+mostOps = 7
+
+-- cells, ids, amounts and definitive numbers have 32 bits
+abbrev pub word : ℕ
+word = 2 ^ 32
+
+-- ids and definitive numbers go up to here
+abbrev pub lastNumber : ℕ
+lastNumber = 4294967295
+
+-- a request record has 64 bytes, an operation in it 8, from byte 8 on
+abbrev pub recordSize : ℕ
+recordSize = 64
+
+abbrev pub opSize : ℕ
+opSize = 8
+
+abbrev pub firstOp : ℕ
+firstOp = 8
+
+-- W is at most 128 requests of 7 operations
+abbrev pub mostW : ℕ
+mostW = 896
