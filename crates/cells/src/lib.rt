@@ -1,19 +1,123 @@
 // Operations, and the cells of a class.
 ghost use mathlib.Core.Path.{_≡_};
-ghost use mathlib.Core.Bool.{true, false, cond};
+ghost use mathlib.Core.Bool.{cond};
 ghost use mathlib.Core.Option.{none, some};
-ghost use Prim.Native.Nat.{ℕ, _+_, _*_, _<_, _≤_};
-ghost use lib.ListN.{length, take, drop, replicate};
+ghost use Prim.Native.Nat.{_*_, _<_};
+ghost use lib.ListN.{length, replicate};
+ghost use Rattle.plain.specs.Sizes.{classCount, cellCount};
 ghost use Rattle.plain.specs.Ops as P;
 ghost use Rattle.plain.specs.Decides.{Decides};
-ghost use Rattle.cells.specs.Ops.{spliced, opOf, OpOk};
+ghost use Rattle.cells.specs.Ops.{cellsOf, spliced, noOp, opOf, OpOk};
 use std::num::wrapping_add_u32;
 
+// Classes are 0 to 15.
+pub const CLASSES: usize = 16;
+
+// The cells of a class are 0 to 63.
+pub const CELLS: usize = 64;
+
+// A run has the cells of all classes, one class after another.
+pub const RUN: usize = CLASSES * CELLS;
+
+// The operation codes are 1 to 4.
+const PUT: u8 = 1;
+
+const ADD: u8 = 2;
+
+const NEED: u8 = 3;
+
+const MOVE: u8 = 4;
+
+// By operation code: does the operation use its second cell?
+const SECOND: [bool; 5] = [false, false, false, false, true];
+
+#[repr(C)]
 pub struct Op {
     pub code: u8,
     pub cell: u8,
     pub second: u8,
     pub amount: u32,
+}
+
+// Whether an operation keeps the rules of a valid record.
+pub fn op_ok(op: Op) -> bool
+    ensures { λ r. ⌜ Decides r (OpOk op) ⌝ }
+{
+    if op.code < PUT {
+        return false;
+    }
+    if MOVE < op.code {
+        return false;
+    }
+    let cell = op.cell as usize;
+    if CELLS <= cell {
+        return false;
+    }
+    let code = op.code as usize;
+    if !SECOND[code] {
+        return op.second == 0;
+    }
+    let second = op.second as usize;
+    if CELLS <= second {
+        return false;
+    }
+    op.cell != op.second
+}
+
+// Whether an operation is all zero.
+pub fn op_zero(op: Op) -> bool
+    ensures { λ r. ⌜ Decides r (op ≡ noOp) ⌝ }
+{
+    if op.code != 0 {
+        return false;
+    }
+    if op.cell != 0 {
+        return false;
+    }
+    if op.second != 0 {
+        return false;
+    }
+    op.amount == 0
+}
+
+// One operation on the cells of its class. False: it declines, and leaves them.
+pub fn carry(cells: &mut [u32], op: Op) -> bool
+    requires { ⌜ (length (now cells) ≡ cellCount) × OpOk op ⌝ }
+    ensures { λ r. ⌜ P.carry (opOf op) (now (cells .entry)) ≡ cond r (some (now (cells .exit))) none ⌝ }
+{
+    let code = op.code;
+    let k = op.cell as usize;
+    let j = op.second as usize;
+    let amount = op.amount;
+    match code {
+        PUT => {
+            cells[k] = amount;
+            true
+        }
+        ADD => {
+            cells[k] = wrapping_add_u32(cells[k], amount);
+            true
+        }
+        NEED => amount <= cells[k],
+        _ => give(cells, k, j, amount),
+    }
+}
+
+// A move of an amount from cell k to cell j. False: it declines, and leaves the cells.
+fn give(cells: &mut [u32], k: usize, j: usize, amount: u32) -> bool
+    requires { ⌜ (k < length (now cells)) × (j < length (now cells)) ⌝ }
+    ensures { λ r. ⌜ P.carry (P.move k j amount) (now (cells .entry)) ≡ cond r (some (now (cells .exit))) none ⌝ }
+{
+    if cells[k] < amount {
+        return false;
+    }
+    if u32::MAX - amount < cells[j] {
+        return false;
+    }
+    let given = cells[j] + amount;
+    cells[k] = cells[k] - amount;
+    cells[j] = given;
+    true
 }
 
 // `to` becomes `from`.
@@ -28,6 +132,16 @@ pub fn copy_cells(to: &mut [u32], from: &[u32])
     }
 }
 
+// The cells of class c of `to` become those of `from`.
+pub fn copy_class(to: &mut [u32], from: &[u32], c: usize)
+    requires { ⌜ (length (now to) ≡ classCount * cellCount) × (length (now from) ≡ classCount * cellCount) × (c < classCount) ⌝ }
+    ensures { λ _. ⌜ now (to .exit) ≡ spliced (now (to .entry)) (cellCount * c) cellCount (cellsOf (now (from .entry)) c) ⌝ }
+{
+    let a = CELLS * c;
+    let b = a + CELLS;
+    copy_cells(&mut to[a..b], &from[a..b]);
+}
+
 // All become 0.
 pub fn clear(to: &mut [u32])
     ensures { λ _. ⌜ now (to .exit) ≡ replicate (length (now (to .entry))) 0 ⌝ }
@@ -39,16 +153,7 @@ pub fn clear(to: &mut [u32])
     }
 }
 
-// The 64 cells of class c of `to` become those of `from`.
-pub fn copy_class(to: &mut [u32], from: &[u32], c: u8)
-    requires { ⌜ (length (now to) ≡ 1024) × (length (now from) ≡ 1024) × (c < 16) ⌝ }
-    ensures { λ _. ⌜ now (to .exit) ≡ spliced (now (to .entry)) (64 * c) 64 (take 64 (drop (64 * c) (now (from .entry)))) ⌝ }
-{
-    let a = 64 * (c as usize);
-    let b = a + 64;
-    copy_cells(&mut to[a..b], &from[a..b]);
-}
-
+// Whether two runs of cells are the same.
 pub fn same_cells(a: &[u32], b: &[u32]) -> bool
     requires { ⌜ length (now a) ≡ length (now b) ⌝ }
     ensures { λ r. ⌜ Decides r (now (a .entry) ≡ now (b .entry)) ⌝ }
@@ -61,38 +166,4 @@ pub fn same_cells(a: &[u32], b: &[u32]) -> bool
         i += 1;
     }
     true
-}
-
-// One operation. False: it declines.
-pub fn carry(cells: &mut [u32], op: Op) -> bool
-    requires { ⌜ (length (now cells) ≡ 64) × OpOk op ⌝ }
-    ensures { λ r. ⌜ P.carry (opOf op) (now (cells .entry)) ≡ cond r (some (now (cells .exit))) none ⌝ }
-{
-    let code = op.code;
-    let k = op.cell as usize;
-    let j = op.second as usize;
-    let amount = op.amount;
-    match code {
-        1 => {
-            cells[k] = amount;
-            true
-        }
-        2 => {
-            cells[k] = wrapping_add_u32(cells[k], amount);
-            true
-        }
-        3 => amount <= cells[k],
-        _ => {
-            if cells[k] < amount {
-                return false;
-            }
-            if u32::MAX - amount < cells[j] {
-                return false;
-            }
-            let given = cells[j] + amount;
-            cells[k] = cells[k] - amount;
-            cells[j] = given;
-            true
-        }
-    }
 }

@@ -40,7 +40,7 @@ read-local s t c k e =
     (λ f. record { answer = rw (read-refusal s t c k, f); class = rw (read-refusal s t c k, f, e) })
 
 -- OFFER. The lowest free slot, and how many are used
-lowest-same : (p q : ℕ → Bool) (from n : ℕ) → ((i : ℕ) → from ≤ i → i < from + n → p i ≡ q i) → lowest p from n ≡ lowest q from n
+pub lowest-same : (p q : ℕ → Bool) (from n : ℕ) → ((i : ℕ) → from ≤ i → i < from + n → p i ≡ q i) → lowest p from n ≡ lowest q from n
 lowest-same p q from zero h = refl
 lowest-same p q from (suc n) h =
     rw (h from (omega arith) (omega arith), lowest-same p q (suc from) n (λ i l m. h i (omega arith) (omega arith)))

@@ -73,6 +73,34 @@ pub first-any : (f g : Item → Bool) (q : List Item) (x : Item) → firstOf f q
 first-any f g q x s h =
     by-test (any g q) (λ t. t) (λ u. no _ h (all-first (λ y. g y ≡ false) f q x s (none-passes g q u)))
 
+-- the first that passes, with one more behind, with one before the waiting, and without the first that passes another test
+pub first-append : (f : Item → Bool) (q : List Item) (x y : Item) → firstOf f q ≡ some x → firstOf f (q ++ (y ∷ [])) ≡ some x
+first-append f [] x y s = let z : _≡_ {A = ℕ} 0 1 = cc in absurd (omega arith)
+first-append f (z ∷ q) x y s = by-test (f z) (λ t. rw t (rw t at s)) (λ g. rw g (first-append f q x y (rw g at s)))
+
+pub first-last : (f : Item → Bool) (q : List Item) (x : Item) → any f q ≡ false → f x ≡ true → firstOf f (q ++ (x ∷ [])) ≡ some x
+first-last f [] x n p = rw p
+first-last f (y ∷ q) x n p = rw (or-left (f y) (any f q) n) (first-last f q x (or-right (f y) (any f q) n) p)
+
+pub first-put : (f : Item → Bool) (x : Item) (q : List Item) → f x ≡ true → any f q ≡ false → firstOf f (beforeWaiting x q) ≡ some x
+first-put f x [] p n = rw p
+first-put f x (y ∷ q) p n =
+    by-test (isConfirmed y)
+    (λ t. rw (t, or-left (f y) (any f q) n) (first-put f x q p (or-right (f y) (any f q) n)))
+    (λ g. rw (g, p))
+
+pub first-before : (f : Item → Bool) (x : Item) (q : List Item) → f x ≡ false → firstOf f (beforeWaiting x q) ≡ firstOf f q
+first-before f x [] n = rw n
+first-before f x (y ∷ q) n =
+    by-test (isConfirmed y) (λ t. rw t (ap (cond (f y) (some y)) (first-before f x q n))) (λ g. rw (g, n))
+
+pub first-drop : (f g : Item → Bool) (q : List Item) (x : Item) → firstOf g q ≡ some x → f x ≡ false → firstOf f (dropOf g q) ≡ firstOf f q
+first-drop f g [] x s n = refl
+first-drop f g (y ∷ q) x s n =
+    by-test (g y)
+    (λ t. let p : y ≡ x = cc (rw t at s) in rw (t, p, n))
+    (λ u. rw u (ap (cond (f y) (some y)) (first-drop f g q x (rw u at s) n)))
+
 -- COUNTS
 abbrev pub one : (Item → Bool) → Item → ℕ
 one f x = cond (f x) 1 0

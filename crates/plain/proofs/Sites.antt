@@ -12,7 +12,7 @@ use Rattle.plain.specs.Ops.{valid}
 use Rattle.plain.specs.Record.{isRecord, recordRules, request, requestIn}
 use Rattle.plain.specs.Queue.{Item, idIs, slotIs, numberIs, any, count, has, asked}
 use Rattle.plain.specs.Steps.{Class, Did, idle}
-use Rattle.plain.specs.Site.{Site, offer, work, confirm, accepts, refusal, tests}
+use Rattle.plain.specs.Site.{Site, offer, work, confirm, read, look, accepts, refusal, tests}
 use Rattle.plain.specs.Site.{lowest, sum, standing, classOf, entryAt, confirmedAt, isFree, freeSlot, numberQueued}
 use Rattle.plain.specs.Site.{atClass, inClass}
 use Rattle.plain.specs.Sound.{All, InOrder, Waiting, SoundSite, Belongs}
@@ -169,3 +169,11 @@ confirm-accepted s i n a =
       waits = p .1 .1 .1 .0;
       last = leb-false _ _ (p .0);
     }
+
+pub read-accepted : (s : Site) (c k : ℕ) → accepts s (read c k) ≡ true → c < 16
+unfolding refusal
+read-accepted s c k a = leb-false _ _ (none-holds 2 (tests s (read c k)) (rising s (read c k)) (eqb-true _ 0 a) .0)
+
+pub look-accepted : (s : Site) (i : ℕ) → accepts s (look i) ≡ true → classOf s i < 16
+unfolding refusal
+look-accepted s i a = ltb-true _ _ (not-false _ (none-holds 2 (tests s (look i)) (rising s (look i)) (eqb-true _ 0 a) .0))

@@ -15,7 +15,7 @@ use Rattle.plain.specs.Queue.{firstOf, has, confirmedPart}
 use Rattle.plain.specs.Steps.{Class, classWith, Did, committed, ending, newEntry, tried, advanced}
 use Rattle.plain.specs.Steps.{worked, workOn, workStep, idle, offerStep}
 use Rattle.plain.specs.Site.{commitOf}
-use Rattle.plain.specs.Sound.{Holds, Belongs, Untouched, Head, AtHead, Working, SoundClass}
+use Rattle.plain.specs.Sound.{Booked, Belongs, Untouched, Head, AtHead, Working, SoundClass}
 use Rattle.plain.proofs.Tests.{by-test}
 use Rattle.plain.proofs.Items.{Lasting, Alike}
 use Rattle.plain.proofs.Items.{tried-is, at-head}
@@ -133,7 +133,7 @@ pub record Offers (c top : ℕ) (r : Request) (slot : ℕ) (k : Class) (d : Did)
   pub part : confirmedPart (d .class .queue) ≡ confirmedPart (k .queue)
   pub turnover : Turnover k (d .class) nothing (that (newEntry r slot))
 
-pub offer-step : (c top : ℕ) (k : Class) (r : Request) (slot : ℕ) → SoundClass c top k → Holds c r slot → Offers c top r slot k (offerStep r slot k)
+pub offer-step : (c top : ℕ) (k : Class) (r : Request) (slot : ℕ) → SoundClass c top k → Booked c r slot → Offers c top r slot k (offerStep r slot k)
 unfolding offerStep
 offer-step c top k r slot s b = record {
   sound = record {

@@ -119,3 +119,35 @@ sum-pair f (suc n) c d l m =
     by-test (eqb d n)
     (λ t. let e = eqb-true d n t in let r = sum-term f n c (omega arith) in rw e (omega arith))
     (λ g. let ne : d ≡ n → ⊥ = eqb-false d n g in let r = sum-pair f n c d l (omega arith) in omega arith)
+
+-- a sum of nothing, a sum of which one term alone counts, and a sum from its other end
+pub sum-nothing : (f : ℕ → ℕ) (n : ℕ) → ((d : ℕ) → d < n → f d ≡ 0) → sum f n ≡ 0
+sum-nothing f n e = sum-same f (λ d. 0) n e ∙ sum-zero n
+
+pub sum-single : (f : ℕ → ℕ) (n c : ℕ) → c < n → ((d : ℕ) → (d ≡ c → ⊥) → f d ≡ 0) → sum f n ≡ f c
+sum-single f n c l e = omega (arith, sum-change (λ d. 0) f n c l e, sum-zero n)
+
+pub sum-front : (f : ℕ → ℕ) (n : ℕ) → sum f (suc n) ≡ f 0 + sum (λ d. f (suc d)) n
+unfolding sum
+sum-front f zero = omega arith
+sum-front f (suc n) = omega (arith, sum-front f n)
+
+-- of terms that are 0 or 1, no two of them 1, the sum is at most 1
+pub sum-apart : (f : ℕ → ℕ) (n : ℕ) → ((i : ℕ) → f i ≤ 1) → ((i j : ℕ) → i < j → j < n → f i ≡ 1 → f j ≡ 1 → ⊥) → sum f n ≤ 1
+unfolding sum
+sum-apart f zero u h = omega arith
+sum-apart f (suc n) u h =
+    let r = sum-apart f n u (λ i j l m. h i j l (omega arith)) in
+    by-test (eqb (f n) 0)
+    (λ t. let e = eqb-true (f n) 0 t in omega arith)
+    (λ g. let ne : f n ≡ 0 → ⊥ = eqb-false (f n) 0 g in
+    let one : f n ≡ 1 = omega (arith, u n) in
+    let z = sum-nothing f n (λ i l. by-test (eqb (f i) 0)
+    (λ t. eqb-true (f i) 0 t)
+    (λ k. let nk : f i ≡ 0 → ⊥ = eqb-false (f i) 0 k in absurd (h i n l (omega arith) (omega (arith, u i)) one))) in
+    omega arith)
+
+-- where none of them passes, the lowest is the one past them; and it is at most any that passes
+pub lowest-past : (p : ℕ → Bool) (from n : ℕ) → ((d : ℕ) → d < from + n → p d ≡ false) → lowest p from n ≡ from + n
+lowest-past p from zero e = omega arith
+lowest-past p from (suc n) e = rw (e from (omega arith)) (omega (arith, lowest-past p (suc from) n (λ d l. e d (omega arith))))

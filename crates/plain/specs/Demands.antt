@@ -1,17 +1,18 @@
 -- What the mission demands of the steps, and what document 01 says besides, as statements about sites and histories. Assumes nothing.
 use Prim.Native.Nat.{ℕ, suc, _-_, _<_}
 use mathlib.Core.Path.{_≡_}
-use mathlib.Core.Bool.{true}
+use mathlib.Core.Logic.{_⊎_}
+use mathlib.Core.Bool.{true, false}
 use mathlib.Core.Option.{some}
 use mathlib.Core.List.{List, [], _∷_}
 use lib.ListN.{length, take}
 use Rattle.plain.specs.Ops.{Request, runAll}
 use Rattle.plain.specs.Record.{requestIn}
-use Rattle.plain.specs.Queue.{Entry, entryOf}
+use Rattle.plain.specs.Queue.{Entry, isExecuted, isConfirmed, left, entryOf}
 use Rattle.plain.specs.Steps.{Answer, refused, queued, stepped, executed, committed, waiting, value, toDo, unconfirmed}
 use Rattle.plain.specs.Site.{Site, Call, Outcome, offer, work, confirm, read, look, zeros, call, accepts}
 use Rattle.plain.specs.Site.{classOf, isFree, isQueued}
-use Rattle.plain.specs.Sizes.{slotCount}
+use Rattle.plain.specs.Sizes.{classCount, slotCount}
 use Rattle.plain.specs.Sound.{SoundSite}
 use Rattle.plain.specs.History.{after, afterFrom, worksFrom, confirmedIn, committedIn}
 
@@ -89,3 +90,53 @@ pub record Shares (s t : Site) (c : ℕ) : Type 0 where
 pub record ActAlike (s t : Site) (c : ℕ) (k : Call) : Type 0 where
   pub answer : call s k .answer ≡ call t k .answer
   pub class : call s k .site .class c ≡ call t k .site .class c
+
+-- A SLOT'S REQUEST. Request r keeps slot j: it is queued in it, the slot is not free, and r has not both finished its work and been confirmed
+pub record Keeps (s : Site) (r : Request) (j : ℕ) : Type 0 where
+  pub it : Entry
+  pub class : r .class < classCount
+  pub queued : entryOf (r .id) (s .class (r .class) .queue) ≡ some it
+  pub request : it .request ≡ r
+  pub slot : it .slot ≡ j
+  pub used : isFree s j ≡ false
+  pub not-both : isExecuted it ≡ true → isConfirmed it ≡ true → ⊥
+
+-- the call brings the second of the two: the last operation of a request confirmed under n, or the number n of an executed one
+abbrev pub BringsBoth : Call → Request → Entry → ℕ → Type 0
+BringsBoth k r e n =
+    ((k ≡ work (r .class)) × (e .number ≡ n) × (left e ≡ 1)) ⊎ ((k ≡ confirm (r .id) n) × (isExecuted e ≡ true))
+
+-- r, which keeps slot j, has with the call k of outcome o both finished its work and been confirmed; its commit is answered, and the slot is free
+pub record Frees (s : Site) (k : Call) (o : Outcome) (r : Request) (j : ℕ) : Type 0 where
+  pub kept : Keeps s r j
+  pub number : ℕ
+  pub confirmed : 0 < number
+  pub both : BringsBoth k r (kept .it) number
+  pub declined : ℕ
+  pub says : o .answer ≡ committed (r .id) number declined j
+  pub free : isFree (o .site) j ≡ true
+
+-- the answer says that a request is given slot j
+pub record Gives (a : Answer) (j : ℕ) : Type 0 where
+  pub id : ℕ
+  pub class : ℕ
+  pub place : ℕ
+  pub says : a ≡ queued id class place j
+
+-- in a history from s a request was given slot j
+abbrev pub GivenIn : Site → List Call → ℕ → Type 0
+GivenIn s [] j = ⊥
+GivenIn s (k ∷ h) j = Gives (call (afterFrom s h) k .answer) j ⊎ GivenIn s h j
+
+-- in a history from s a call freed the slot j of r, and until then no other was given it
+abbrev pub FreedIn : Site → List Call → Request → ℕ → Type 0
+FreedIn s [] r j = ⊥
+FreedIn s (k ∷ h) r j = (Frees (afterFrom s h) k (call (afterFrom s h) k) r j × (GivenIn s h j → ⊥)) ⊎ FreedIn s h r j
+
+-- THE SLOT PROMISE, of an accepted offer of the record b and its outcome o: the answer names a slot; and after any further calls the request keeps
+-- that slot and no other was given it, or one of the calls freed it
+pub record SlotPromise (b : List ℕ) (o : Outcome) : Type 0 where
+  pub place : ℕ
+  pub slot : ℕ
+  pub says : o .answer ≡ queued (requestIn b .id) (requestIn b .class) place slot
+  pub later : (h : List Call) → (Keeps (afterFrom (o .site) h) (requestIn b) slot × (GivenIn (o .site) h slot → ⊥)) ⊎ FreedIn (o .site) h (requestIn b) slot

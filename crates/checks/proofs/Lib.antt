@@ -1,0 +1,2 @@
+-- What the types of a check's parameters say.
+pub mod Shape

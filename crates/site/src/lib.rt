@@ -1,0 +1,179 @@
+// The site: its value, the check that it is sound with its cells, and fresh. The calls stand in offer, work, confirm and look.
+ghost use mathlib.Core.Path.{_≡_};
+ghost use lib.ListN.{length};
+ghost use Rattle.plain.specs.Decides.{Decides};
+ghost use Rattle.store.specs.Sound.{Sound};
+ghost use Rattle.store.specs.Calls.{Started};
+ghost use Rattle.site.specs.Held.{store, stateOf, Door};
+
+mod confirm;
+mod look;
+mod offer;
+mod work;
+
+use cells::RUN;
+use cells::clear;
+use checks::cells_ok;
+use checks::each_once;
+use checks::in_order;
+use checks::lens_short;
+use checks::map_agrees;
+use checks::numbered;
+use checks::pairs_differ;
+use checks::slots_ok;
+use checks::tails_zero;
+use slots::Slot;
+use slots::free_slot;
+
+// Slots are 0 to 127. A queue has at most all of them, so each class has 128 queue places.
+pub const SLOTS: usize = 128;
+
+// A class is below 16 and a cell below 64; what a caller gives may be any number.
+const CLASSES: u64 = 16;
+
+const CELLS: u64 = 64;
+
+#[repr(C)]
+pub struct Site {
+    pub slots: [Slot; 128],
+    pub queue: [u8; 2048],
+    pub lens: [u8; 16],
+    pub low: u64,
+    pub high: u64,
+    pub confirmations: u32,
+    pub commits: u32,
+}
+
+// What a call answers; document 01's number and values for each case are in specs/Held.
+pub enum Answer {
+    Refused(u8),
+    Queued {
+        id: u32,
+        class: u8,
+        place: u8,
+        slot: u8,
+    },
+    Stepped {
+        id: u32,
+        done: u8,
+    },
+    Executed {
+        id: u32,
+    },
+    Committed {
+        id: u32,
+        number: u32,
+        mark: u8,
+        slot: u8,
+    },
+    Waiting {
+        id: u32,
+        w: u32,
+        back: u32,
+    },
+    Value(u32),
+    ToDo(u32),
+    Unconfirmed,
+}
+
+// The site handed back, with the answer.
+pub struct Reply {
+    pub site: Site,
+    pub answer: Answer,
+}
+
+// A fresh site, and 0; or an empty one, and the number of the refusal.
+pub struct Fresh {
+    pub site: Site,
+    pub refused: u8,
+}
+
+impl Site {
+    // No request queued, both counts 0, all cells 0. With wrong cells it touches none.
+    pub fn fresh(committed: &mut [u32], working: &mut [u32]) -> Fresh
+        ensures { λ r. ⌜ Started (now (committed .entry)) (now (working .entry)) (store (r .site)) (r .refused) (now (committed .exit)) (now (working .exit)) ⌝ }
+    {
+        let free = free_slot();
+        let site = Site {
+            slots: [free; 128],
+            queue: [0; 2048],
+            lens: [0; 16],
+            low: 0,
+            high: 0,
+            confirmations: 0,
+            commits: 0,
+        };
+        if committed.len() != RUN {
+            return Fresh {
+                site: site,
+                refused: 1,
+            };
+        }
+        if working.len() != RUN {
+            return Fresh {
+                site: site,
+                refused: 1,
+            };
+        }
+        clear(committed);
+        clear(working);
+        Fresh {
+            site: site,
+            refused: 0,
+        }
+    }
+
+    // Whether the site is sound with its cells.
+    fn sound(self, committed: &[u32], working: &[u32]) -> bool
+        requires { ⌜ (length (now committed) ≡ 1024) × (length (now working) ≡ 1024) ⌝ }
+        ensures { λ r. ⌜ Decides r (Sound (store self) (now (committed .entry)) (now (working .entry))) ⌝ }
+    {
+        let slots = self.slots;
+        let queue = self.queue;
+        let lens = self.lens;
+        if !slots_ok(slots) {
+            return false;
+        }
+        if !lens_short(&lens) {
+            return false;
+        }
+        if !tails_zero(&queue, &lens) {
+            return false;
+        }
+        if !map_agrees(slots, self.low, self.high) {
+            return false;
+        }
+        if !each_once(slots, queue, lens, self.low, self.high) {
+            return false;
+        }
+        if !pairs_differ(slots) {
+            return false;
+        }
+        if !in_order(slots, queue, lens, self.confirmations) {
+            return false;
+        }
+        if self.confirmations < self.commits {
+            return false;
+        }
+        if self.confirmations - self.commits != numbered(slots) {
+            return false;
+        }
+        cells_ok(slots, queue, lens, committed, working)
+    }
+
+    // The refusal that every call begins with: 1 for wrong cells, 2 for an unsound site, 0 for neither.
+    fn door(self, committed: &[u32], working: &[u32]) -> u8
+        ensures { λ r. ⌜ Door (stateOf self (now (committed .entry)) (now (working .entry))) r ⌝ }
+    {
+        if committed.len() != RUN {
+            return 1;
+        }
+        if working.len() != RUN {
+            return 1;
+        }
+        if !self.sound(committed, working) {
+            return 2;
+        }
+        0
+    }
+}

@@ -1,0 +1,97 @@
+// Read and look: what a site answers without changing, and the search of an id.
+ghost use mathlib.Core.Path.{_≡_};
+ghost use Prim.Native.Nat.{_<_};
+ghost use Rattle.plain.specs.Queue.{owed};
+ghost use Rattle.plain.specs.Site.{read, look};
+ghost use Rattle.slots.specs.Meaning.{slotAt};
+ghost use Rattle.store.specs.Meaning.{queueOf};
+ghost use Rattle.store.specs.Steps.{Countable};
+ghost use Rattle.store.specs.Calls.{Called};
+ghost use Rattle.site.specs.Held.{store, stateOf, answerOf, SlotOf};
+use crate::Answer;
+use crate::CELLS;
+use crate::CLASSES;
+use crate::SLOTS;
+use crate::Site;
+
+impl Site {
+    // The slot of a queued id, 128 where it is not queued: the search breaks with the slot.
+    pub(crate) fn slot_of(self, id: u64) -> usize
+        ensures { λ r. ⌜ SlotOf (self .slots) id r ⌝ }
+    {
+        if id == 0 {
+            return SLOTS;
+        }
+        let mut i = 0;
+        let at = loop {
+            if SLOTS <= i {
+                break SLOTS;
+            }
+            if self.slots[i].id as u64 == id {
+                break i;
+            }
+            i += 1;
+        };
+        at
+    }
+
+    // The operations still to do by slot s and by all before it in the queue of class c.
+    pub(crate) fn to_do(self, c: usize, s: usize) -> u32
+        requires { ⌜ Countable (store self) c × (s < 128) × (0 < slotAt (self .slots) s .id) ⌝ }
+        ensures { λ r. ⌜ r ≡ owed (slotAt (self .slots) s .id) (queueOf (store self) c) ⌝ }
+    {
+        let len = self.lens[c] as usize;
+        let mut w: u32 = 0;
+        let mut p = 0;
+        while p < len {
+            let x = self.queue[SLOTS * c + p];
+            let i = x as usize;
+            let v = self.slots[i];
+            let left = v.count - v.done;
+            w = w + (left as u32);
+            if i == s {
+                return w;
+            }
+            p += 1;
+        }
+        w
+    }
+
+    // The committed cell of a class; or refuses with 1, 2, 10 or 12.
+    pub fn read(self, committed: &[u32], working: &[u32], class: u64, cell: u64) -> Answer
+        ensures { λ r. ⌜ Called (stateOf self (now (committed .entry)) (now (working .entry))) (read class cell) (stateOf self (now (committed .entry)) (now (working .entry))) (answerOf r) ⌝ }
+    {
+        let no = self.door(committed, working);
+        if no != 0 {
+            return Answer::Refused(no);
+        }
+        if CLASSES <= class {
+            return Answer::Refused(10);
+        }
+        if CELLS <= cell {
+            return Answer::Refused(12);
+        }
+        let at = cells::CELLS * (class as usize) + (cell as usize);
+        Answer::Value(committed[at])
+    }
+
+    // W for a confirmed request, or that it is unconfirmed; or refuses with 1, 2 or 8.
+    pub fn look(self, committed: &[u32], working: &[u32], id: u64) -> Answer
+        ensures { λ r. ⌜ Called (stateOf self (now (committed .entry)) (now (working .entry))) (look id) (stateOf self (now (committed .entry)) (now (working .entry))) (answerOf r) ⌝ }
+    {
+        let no = self.door(committed, working);
+        if no != 0 {
+            return Answer::Refused(no);
+        }
+        let i = self.slot_of(id);
+        if SLOTS <= i {
+            return Answer::Refused(8);
+        }
+        let v = self.slots[i];
+        if v.number == 0 {
+            return Answer::Unconfirmed;
+        }
+        let c = v.class as usize;
+        Answer::ToDo(self.to_do(c, i))
+    }
+}

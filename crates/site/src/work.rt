@@ -1,0 +1,124 @@
+// Work: the head of a class does its next operation, and commits when it has done its last and is confirmed.
+ghost use mathlib.Core.Path.{_≡_};
+ghost use Rattle.plain.specs.Site.{work};
+ghost use Rattle.store.specs.Steps.{Workable, Advanced, Commitable, CommitDone};
+ghost use Rattle.store.specs.Calls.{RightCells, SoundState, Did, Called};
+ghost use Rattle.site.specs.Held.{store, stateOf, answerOf};
+use crate::Answer;
+use crate::CLASSES;
+use crate::Reply;
+use crate::SLOTS;
+use crate::Site;
+use slots::free_slot;
+use slots::steps::step;
+use usedmap::UsedMap;
+
+impl Site {
+    // The head of class c does its next operation.
+    fn advance(mut self, committed: &[u32], working: &mut [u32], c: usize) -> Self
+        requires { ⌜ Workable (store self) (now committed) (now working) c ⌝ }
+        ensures { λ r. ⌜ Advanced (store self) (now (committed .entry)) (now (working .entry)) c (store r) (now (working .exit)) ⌝ }
+    {
+        let i = self.queue[SLOTS * c] as usize;
+        let v = self.slots[i];
+        let a = cells::CELLS * c;
+        let b = a + cells::CELLS;
+        let u = step(v, &committed[a..b], &mut working[a..b]);
+        self.slots[i] = u;
+        self
+    }
+
+    // The head of class c commits: its cells, its slot, its place, the count.
+    pub(crate) fn commit(mut self, committed: &mut [u32], working: &[u32], c: usize) -> Self
+        requires { ⌜ Commitable (store self) (now committed) (now working) c ⌝ }
+        ensures { λ r. ⌜ CommitDone (store self) (now (committed .entry)) (now (working .entry)) c (store r) (now (committed .exit)) ⌝ }
+    {
+        cells::copy_class(committed, working, c);
+        let s = self.queue[SLOTS * c];
+        let i = s as usize;
+        self.slots[i] = free_slot();
+        let old = UsedMap {
+            lo: self.low,
+            hi: self.high,
+        };
+        let map = old.with_free(s as u32);
+        self.low = map.lo;
+        self.high = map.hi;
+        let len = self.lens[c];
+        places::take_head(&mut self.queue, c, len as usize);
+        self.lens[c] = len - 1;
+        self.commits = self.commits + 1;
+        self
+    }
+
+    // Work on a sound site.
+    fn work_sound(mut self, committed: &mut [u32], working: &mut [u32], class: u64) -> Reply
+        requires { ⌜ RightCells (stateOf self (now committed) (now working)) × SoundState (stateOf self (now committed) (now working)) ⌝ }
+        ensures { λ r. ⌜ Did (stateOf self (now (committed .entry)) (now (working .entry))) (work class) (stateOf (r .site) (now (committed .exit)) (now (working .exit))) (answerOf (r .answer)) ⌝ }
+    {
+        if CLASSES <= class {
+            return Reply {
+                site: self,
+                answer: Answer::Refused(10),
+            };
+        }
+        let c = class as usize;
+        if self.lens[c] == 0 {
+            return Reply {
+                site: self,
+                answer: Answer::Refused(11),
+            };
+        }
+        let s = self.queue[SLOTS * c];
+        let i = s as usize;
+        let v = self.slots[i];
+        if v.done == v.count {
+            return Reply {
+                site: self,
+                answer: Answer::Refused(11),
+            };
+        }
+        self = self.advance(&*committed, working, c);
+        let done = v.done + 1;
+        if done < v.count {
+            return Reply {
+                site: self,
+                answer: Answer::Stepped {
+                    id: v.id,
+                    done: done,
+                },
+            };
+        }
+        if v.number == 0 {
+            return Reply {
+                site: self,
+                answer: Answer::Executed { id: v.id },
+            };
+        }
+        let mark = self.slots[i].mark;
+        self = self.commit(committed, &*working, c);
+        Reply {
+            site: self,
+            answer: Answer::Committed {
+                id: v.id,
+                number: v.number,
+                mark: mark,
+                slot: s,
+            },
+        }
+    }
+
+    // The head of a class does its next operation; answers id and operations done, that it is executed, or its commit; or refuses with 1, 2, 10 or 11.
+    pub fn work(mut self, committed: &mut [u32], working: &mut [u32], class: u64) -> Reply
+        ensures { λ r. ⌜ Called (stateOf self (now (committed .entry)) (now (working .entry))) (work class) (stateOf (r .site) (now (committed .exit)) (now (working .exit))) (answerOf (r .answer)) ⌝ }
+    {
+        let no = self.door(&*committed, &*working);
+        if no != 0 {
+            return Reply {
+                site: self,
+                answer: Answer::Refused(no),
+            };
+        }
+        self.work_sound(committed, working, class)
+    }
+}

@@ -1,0 +1,96 @@
+-- Confirm, of a request that does not commit at once: its slot gets the number, another waiting head is put back, and its place moves up. Assumes nothing.
+use Prim.Native.Nat.{ℕ, suc, _-_, _<_, _≤_}
+use native.Mathlib.Omega.{arith}
+use mathlib.Core.Path.{_≡_, refl, sym, ap, _∙_}
+use mathlib.Core.Logic.{_⊎_}
+use mathlib.Core.Bool.{false, not}
+use mathlib.Core.List.{List, _∷_, map}
+use lib.ListN.{length, getD, take, drop, set, length-map, List·getD-map}
+use lib.Seq.{split-at, take-take}
+use borrow.Author.Tests.{eq-eqb}
+use Rattle.plain.specs.Queue as Q
+use Rattle.plain.specs.Steps as K
+use Rattle.store.proofs.Lists.{map-drop, map-moved, map-take}
+use Rattle.places.specs.Moves.{movedUp}
+use Rattle.plain.specs.Sound.{All, Waiting}
+use Rattle.slots.specs.Meaning.{entryOf, freeSlot, isUsed, requestOf, slotAt}
+use Rattle.slots.specs.Rules.{Holds}
+use Rattle.slots.specs.declared.Slot.{Slot}
+use Rattle.store.proofs.Lists.{times-append}
+use Rattle.store.proofs.Moving.{Confirmed, moved-is, times-moved}
+use Rattle.store.proofs.Relaid.{Queued, at-stored, entries-kept, relaid}
+use Rattle.store.specs.Meaning.{entries, places}
+use Rattle.store.specs.Sound.{Laid, stands, times}
+use Rattle.store.specs.Steps.{withNumber, asPutBack}
+use Rattle.store.specs.Store.{Shaped, Store}
+use Rattle.usedmap.specs.Flags.{usedOf}
+
+-- a move does not look at what stands where it starts
+moved-cong : {A : Type 0} (x : A) (l m : List A) (from to : ℕ) → to ≤ from → take from l ≡ take from m → drop (suc from) l ≡ drop (suc from) m
+    → movedUp x l from to ≡ movedUp x m from to
+moved-cong x l m from to k e f =
+    let g : take to l ≡ take to m = sym (take-take to from l k) ∙ ap (take to) e ∙ take-take to from m k in
+    rw (g, e, f)
+
+-- a slot that stands once in a queue, at `from`, stands neither before nor behind
+module _ (i : ℕ) (ps : List ℕ) (from : ℕ) (l : from < length ps) (at : getD ps from 0 ≡ i) (one : times i ps ≡ 1) where
+  pub apart : (times i (take from ps) ≡ 0) × (times i (drop (suc from) ps) ≡ 0)
+  apart =
+      let e = ap (times i) (split-at ps from 0 l) ∙ times-append i (take from ps) (getD ps from 0 ∷ drop (suc from) ps) in
+      let f : times i (getD ps from 0 ∷ drop (suc from) ps) ≡ suc (times i (drop (suc from) ps)) = rw (at, eq-eqb i i refl) in
+      (omega arith, omega arith)
+
+  -- its slot is stored and its place moved: in the queue, its new entry is moved
+  pub entries-moved : (sl : List Slot) (v : Slot) (m : i < length sl) (to : ℕ) → to ≤ from
+      → entries (set sl i v) (movedUp i ps from to) ≡ movedUp (entryOf i v) (entries sl ps) from to
+  entries-moved sl v m to k =
+      map-moved (λ j. entryOf j (slotAt (set sl i v) j)) i ps from to
+      ∙ ap (λ (x : Slot). movedUp (entryOf i x) (entries (set sl i v) ps) from to) (at-stored sl i v m)
+      ∙ moved-cong (entryOf i v) (entries (set sl i v) ps) (entries sl ps) from to k
+      (sym (map-take _ from ps) ∙ entries-kept sl i v m (take from ps) (apart .0) ∙ map-take _ from ps)
+      (sym (map-drop _ (suc from) ps) ∙ entries-kept sl i v m (drop (suc from) ps) (apart .1) ∙ map-drop _ (suc from) ps)
+
+-- what a slot holds and where it stands does not go by its number and its progress
+pub holds-kept : (u v : Slot) → v .count ≡ u .count → v .ops ≡ u .ops → requestOf v ≡ requestOf u → Holds u → Holds v
+holds-kept u v c o r h = record {
+  count = rw c (h .count);
+  coded = rw (c, o) (h .coded);
+  rest = rw (c, o) (h .rest);
+  valid = rw r (h .valid);
+}
+
+-- Laid again, where each slot keeps its record
+module _ (s t : Store) (w : Shaped s) (h : Laid s) (c from to : ℕ) (l : c < 16) (m : from < length (places s c)) (k : to ≤ from)
+    (q : Queued s t c (movedUp (getD (places s c) from 0) (places s c) from to))
+    (kept : (j : ℕ) → (slotAt (t .slots) j .id ≡ slotAt (s .slots) j .id) × (slotAt (t .slots) j .class ≡ slotAt (s .slots) j .class))
+    (valid : (j : ℕ) → j < 128 → (slotAt (t .slots) j ≡ freeSlot) ⊎ Holds (slotAt (t .slots) j))
+    (map′ : usedOf (t .low) (t .high) ≡ usedOf (s .low) (s .high)) (flags : map isUsed (t .slots) ≡ map isUsed (s .slots)) where
+  pub confirm-laid : Laid t
+  confirm-laid = relaid s t c (movedUp (getD (places s c) from 0) (places s c) from to) q h (record {
+    slots = valid;
+    own = λ j. times-moved j (places s c) from to m k ∙ h .exactly-once c j l ∙ sym (same c j);
+    others = λ d j _ ne. same d j;
+    used = map′ ∙ h .map-agrees ∙ sym flags;
+  })
+    where
+      same : (d j : ℕ) → stands d (slotAt (t .slots) j) ≡ stands d (slotAt (s .slots) j)
+      same d j = rw (kept j .0, kept j .1)
+
+-- the queue: the head as it is, and the head put back
+module _ (sl : List Slot) (ps : List ℕ) (i from to n : ℕ) (l : from < length ps) (k : to ≤ from) (at : getD ps from 0 ≡ i) (one : times i ps ≡ 1) (m : i < length sl)
+    (first : Q.has (slotAt sl i .id) (take from (entries sl ps)) ≡ false) (a : All Confirmed (take to (entries sl ps))) (b : All Waiting (drop to (entries sl ps))) where
+  pub confirm-queue : entries (set sl i (withNumber n (slotAt sl i))) (movedUp i ps from to) ≡ K.moved (slotAt sl i .id) n (entries sl ps)
+  confirm-queue =
+      entries-moved i ps from l at one sl (withNumber n (slotAt sl i)) m to k
+      ∙ ap (λ (e : Q.Entry). movedUp (K.numbered n e) (entries sl ps) from to) (sym here)
+      ∙ sym (moved-is (slotAt sl i .id) n (entries sl ps) from to none (omega (arith, length-map ps (λ j. entryOf j (slotAt sl j)))) k (ap Q.idOf here) first a b)
+    where
+      none : Q.Entry
+      none = entryOf 0 (slotAt sl 0)
+
+      here : getD (entries sl ps) from (entryOf 0 (slotAt sl 0)) ≡ entryOf i (slotAt sl i)
+      here = List·getD-map (λ j. entryOf j (slotAt sl j)) ps from 0 ∙ ap (λ (j : ℕ). entryOf j (slotAt sl j)) at
+
+pub back-queue : (sl : List Slot) (h : ℕ) (ps : List ℕ) (m : h < length sl) → times h ps ≡ 0
+    → entries (set sl h (asPutBack (slotAt sl h))) (h ∷ ps) ≡ K.putBack (entryOf h (slotAt sl h)) ∷ entries sl ps
+back-queue sl h ps m z = rw (at-stored sl h (asPutBack (slotAt sl h)) m, entries-kept sl h (asPutBack (slotAt sl h)) m ps z)

@@ -1,0 +1,312 @@
+-- Confirm on a sound site, of a request that does not commit at once: it is numbered and moves forward, another waiting head being put back.
+-- Assumes nothing.
+use Prim.Native.Nat.{ℕ, zero, suc, _+_, _*_, _-_, _<_, _≤_}
+use native.Mathlib.Omega.{arith}
+use mathlib.Core.Path.{_≡_, refl, sym, ap, _∙_, subst}
+use mathlib.Core.Logic.{inl, inr}
+use mathlib.Core.Bool.{false, not, and-false}
+use mathlib.Core.List.{List, [], _∷_}
+use lib.Dec.{eqb, ltb}
+use lib.ListN.{length, getD, take, drop, length-set}
+use borrow.Author.Tests.{eq-eqb, ne-eqb, lt-ltb, le-ltb, lt-leb, ltb-true, ltb-false}
+use Rattle.plain.specs.Queue as Q
+use Rattle.plain.specs.Steps as K
+use Rattle.plain.specs.Site as S
+use Rattle.plain.specs.Sound.{All, Waiting, InOrder}
+use Rattle.plain.proofs.Tests.{by-test}
+use Rattle.plain.proofs.Queues.{waits-all}
+use Rattle.slots.specs.declared.Slot.{Slot}
+use Rattle.slots.specs.Meaning.{entryOf, isUsed, slotAt}
+use Rattle.slots.specs.Rules.{Holds}
+use Rattle.store.specs.Store.{Store, Shaped}
+use Rattle.store.specs.Meaning.{lenOf, places, entries, queueOf, cellsOf, plain, plainClass, Same}
+use Rattle.store.specs.Sound.{times, Laid, Apart}
+use Rattle.store.specs.Calls.{State, RightCells, SoundState, Did, plainOf}
+use Rattle.store.specs.Steps.{withSlot, headSlot, asPutBack, PutBack, PlaceOf, FirstWaiting, Forward}
+use Rattle.store.proofs.Canonical.{has-id, places-length}
+use Rattle.store.proofs.Walk.{place-at}
+use Rattle.store.proofs.Relaid.{by-slot, elsewhere, entries-kept}
+use Rattle.store.proofs.Moving.{Confirmed}
+use Rattle.store.proofs.Confirm.{back-queue, holds-kept}
+use Rattle.store.proofs.Commit.{head-is, head-small, stands-class}
+use Rattle.store.proofs.Promise.{sound-kept, same-trans}
+use Rattle.store.proofs.Asked.{there, one-id}
+use Rattle.store.proofs.Confirming.{outcome, class-here, held}
+use Rattle.store.proofs.Work.{kept-laid, same-in, head-held}
+use Rattle.slots.proofs.Records.{ops-count}
+use Rattle.store.proofs.Forward.{kept, forward-laid, forward-queue, forward-means}
+
+-- the confirmed part and the waiting part of a queue in order, by the first place that waits
+split-order : (l : List Slot) (m top : ℕ) (ps : List ℕ) (to : ℕ) → InOrder m top (entries l ps) → to ≤ length ps
+    → ((k : ℕ) → k < to → 0 < slotAt l (getD ps k 0) .number) → (to < length ps → slotAt l (getD ps to 0) .number ≡ 0)
+    → All Confirmed (take to (entries l ps)) × All Waiting (drop to (entries l ps))
+split-order l m top [] zero o h a b = (tt, tt)
+split-order l m top [] (suc to) o h a b = absurd (omega arith)
+split-order l m top (p ∷ ps) zero (inl o) h a b = absurd (omega (arith, b (omega arith)))
+split-order l m top (p ∷ ps) zero (inr o) h a b = (tt, o)
+split-order l m top (p ∷ ps) (suc to) (inl o) h a b =
+    let r = split-order l (slotAt l p .number) top ps to (o .2) (omega arith) (λ k u. a (suc k) (omega arith)) (λ u. b (omega arith)) in
+    ((lt-ltb 0 (slotAt l p .number) (omega arith), r .0), r .1)
+split-order l m top (p ∷ ps) (suc to) (inr o) h a b = absurd (omega (arith, a 0 (omega arith), o .0))
+
+-- a slot that takes another value of the same record leaves the shape
+kept-shaped : (s : Store) → Shaped s → (i : ℕ) (u : Slot) → i < 128 → length (u .ops) ≡ 7 → u .id ≡ slotAt (s .slots) i .id → Shaped (withSlot s i u)
+kept-shaped s w i u m n e = record {
+  slots = length-set (s .slots) i u ∙ w .slots;
+  ops = by-slot (s .slots) i u inside (λ j v. j < 128 → length (v .ops) ≡ 7) (λ _. n) (λ j ne l. w .ops j l);
+  ids = by-slot (s .slots) i u inside (λ j v. j < 128 → v .id < 4294967296) (λ l. rw e (w .ids i l)) (λ j ne l. w .ids j l);
+  queue = w .queue;
+  lens = w .lens;
+  low = w .low;
+  high = w .high;
+}
+  where
+    inside : i < length (s .slots)
+    inside = omega (arith, w .slots)
+
+-- what is known of the request when it comes to moving
+pub record Movable (x : State) (id n i from to : ℕ) : Type 0 where
+  pub more : x .site .confirmations < 4294967295
+  pub next : n ≡ x .site .confirmations + 1
+  pub small : i < 128
+  pub is : slotAt (x .site .slots) i .id ≡ id
+  pub positive : 0 < id
+  pub waits : slotAt (x .site .slots) i .number ≡ 0
+  pub place : PlaceOf (x .site) (slotAt (x .site .slots) i .class) i from
+  pub first : FirstWaiting (x .site) (slotAt (x .site .slots) i .class) to
+
+module _ (x : State) (w : Shaped (x .site)) (r : RightCells x) (q : SoundState x) (id n i from to : ℕ) (f : Movable x id n i from to) where
+  abbrev s : Store
+  s = x .site
+
+  abbrev base : List ℕ
+  base = x .committed
+
+  abbrev wrk : List ℕ
+  wrk = x .working
+
+  abbrev p : S.Site
+  p = plainOf x
+
+  abbrev k : S.Call
+  k = S.confirm id n
+
+  abbrev v : Slot
+  v = slotAt (x .site .slots) i
+
+  abbrev c : ℕ
+  c = slotAt (x .site .slots) i .class
+
+  class-small : c < 16
+  class-small = class-here x w r q id n (f .more) (f .next) i (f .small) (f .is) (f .positive) .1
+
+  holds : Holds v
+  holds = held x w r q id n (f .more) (f .next) i (f .small) (f .is) (f .positive) (f .waits)
+
+  in-place : (a : ℕ) → a < lenOf s c → getD (places s c) a 0 ≡ getD (s .queue) (128 * c + a) 0
+  in-place a u = place-at s w c class-small (q .laid .not-longer-than-128 c class-small) a u
+
+  long : length (places s c) ≡ lenOf s c
+  long = places-length s w (q .laid) c class-small
+
+  pub forward : to ≤ from
+  forward = by-test (ltb from to)
+      (λ t. absurd (omega (arith, f .first .before from (ltb-true from to t), ap (λ (j : ℕ). slotAt (s .slots) j .number) (f .place .is), f .waits)))
+      (λ g. ltb-false from to g)
+
+  parts : All Confirmed (take to (queueOf s c)) × All Waiting (drop to (queueOf s c))
+  parts = split-order (s .slots) 0 (s .confirmations) (places s c) to (q .confirmed-before-waiting c class-small) (omega (arith, long, f .first .within))
+      (λ a u. rw (in-place a (omega (arith, f .first .within))) (f .first .before a u))
+      (λ u. rw (in-place to (omega (arith, long))) (f .first .waits (omega (arith, long))))
+
+  some-left : 0 < lenOf s c
+  some-left = omega (arith, f .place .within)
+
+  -- the head of the queue
+  abbrev hd : ℕ
+  hd = headSlot (x .site) (slotAt (x .site .slots) i .class)
+
+  abbrev u : Slot
+  u = slotAt (x .site .slots) (headSlot (x .site) (slotAt (x .site .slots) i .class))
+
+  abbrev ps : List ℕ
+  ps = drop 1 (places (x .site) (slotAt (x .site .slots) i .class))
+
+  head-places : places s c ≡ hd ∷ ps
+  head-places = head-is s w (q .laid) c class-small some-left
+
+  head-queue : queueOf s c ≡ entryOf hd u ∷ entries (s .slots) ps
+  head-queue = ap (entries (s .slots)) head-places
+
+  hd-small : hd < 128
+  hd-small = head-small s w (q .laid) c class-small some-left
+
+  hd-holds : Holds u
+  hd-holds = head-held x w r q c class-small some-left
+
+  -- another slot has another id
+  other-id : (hd ≡ i → ⊥) → eqb (u .id) id ≡ false
+  other-id ne = ne-eqb (u .id) id (λ e.
+      ne (one-id (λ j. slotAt (s .slots) j .id) (q .ids-differ) hd i hd-small (f .small) (has-id u hd-holds) (e ∙ sym (f .is))))
+
+  called : S.call p k ≡ S.inClass p c 1 (K.confirmStep id n (p .class c))
+  called = outcome x w r q id n (f .more) (f .next) i (f .small) (f .is) (f .positive) (f .waits)
+
+  -- what is answered once the step is known, and the site that it leaves is sound
+  pub record Goes (t : Store) (wrk′ : List ℕ) (back : ℕ) : Type 0 where
+    pub sound : SoundState (record { site = t; committed = base; working = wrk′ })
+    pub same-id : slotAt (t .slots) i .id ≡ id
+    pub answers : (W : ℕ) → W ≡ Q.owed (slotAt (t .slots) i .id) (queueOf t c) → Did x k (record { site = t; committed = base; working = wrk′ }) (K.waiting id W back)
+
+  goes : (t : Store) (wrk′ : List ℕ) (back : ℕ) (queue : List Q.Entry) → length wrk′ ≡ 1024 → length (t .slots) ≡ 128 → slotAt (t .slots) i .id ≡ id → Laid t
+      → K.confirmStep id n (p .class c) ≡ K.told id back queue (cellsOf base c) (cellsOf wrk′ c)
+      → queueOf t c ≡ queue → Same (plain t base wrk′) (S.inClass p c 1 (K.told id back queue (cellsOf base c) (cellsOf wrk′ c)) .site)
+      → Goes t wrk′ back
+  goes t wrk′ back queue n′ m kept-id h step is same = record {
+    sound = snd;
+    same-id = kept-id;
+    answers = λ W e. record {
+      cells = (r .0, n′);
+      sound = snd;
+      site = rw o same;
+      answer = rw o (ap (λ (z : ℕ). K.waiting id z back) (e ∙ rw (kept-id, is)));
+    };
+  }
+    where
+      o : S.call p k ≡ S.inClass p c 1 (K.told id back queue (cellsOf base c) (cellsOf wrk′ c))
+      o = called ∙ ap (S.inClass p c 1) step
+
+      snd : SoundState (record { site = t; committed = base; working = wrk′ })
+      snd = sound-kept x (record { site = t; committed = base; working = wrk′ }) k w m q h (rw o same)
+
+  -- THE HEAD STAYS: it is the request itself, not executed, or it is confirmed
+  module _ (t : Store) (d : Forward s c i n from to t) where
+    moves : K.confirmStep id n (p .class c) ≡ K.told id 0 (K.moved id n (queueOf s c)) (cellsOf base c) (cellsOf wrk c) → Goes t wrk 0
+    moves step =
+        goes t wrk 0 (K.moved id n (queueOf s c)) (r .1) (ap length (d .slots) ∙ length-set (s .slots) i _ ∙ w .slots)
+        (kept s t w (q .laid) c i n from to class-small refl holds (f .place) forward d i .0 ∙ f .is)
+        (forward-laid s t w (q .laid) c i n from to class-small refl holds (f .place) forward d) step
+        (forward-queue s t w (q .laid) c i n from to class-small refl holds (f .place) forward d (q .ids-differ) (parts .0) (parts .1) ∙ ap (λ (z : ℕ). K.moved z n (queueOf s c)) (f .is))
+        (subst (λ (z : ℕ). Same (plain t base wrk) (S.inClass p c 1 (K.told z 0 (K.moved z n (queueOf s c)) (cellsOf base c) (cellsOf wrk c)) .site)) (f .is)
+        (forward-means s t w (q .laid) c i n from to class-small refl holds (f .place) forward d (q .ids-differ) (parts .0) (parts .1) base wrk 0))
+
+    pub itself : hd ≡ i → v .done < v .count → Goes t wrk 0
+    unfolding K.confirmStep plain plainClass
+    itself e l = moves (ap (λ (z : List Q.Entry). K.confirmOn id n z (cellsOf base c) (cellsOf wrk c)) own-head
+        ∙ rw (eq-eqb (v .id) id (f .is), ops-count v (w .ops i (f .small)) holds, lt-leb (v .count) (v .done) l)
+        (ap (λ (z : List Q.Entry). K.told id 0 (K.moved id n z) (cellsOf base c) (cellsOf wrk c)) (sym own-head)))
+      where
+        own-head : queueOf s c ≡ entryOf i v ∷ entries (s .slots) ps
+        own-head = head-queue ∙ ap (λ (j : ℕ). entryOf j (slotAt (s .slots) j) ∷ entries (s .slots) ps) e
+
+    pub behind-confirmed : (hd ≡ i → ⊥) → 0 < u .number → Goes t wrk 0
+    unfolding K.confirmStep plain plainClass
+    behind-confirmed ne l = moves (ap (λ (z : List Q.Entry). K.confirmOn id n z (cellsOf base c) (cellsOf wrk c)) head-queue
+        ∙ rw (other-id ne, lt-ltb 0 (u .number) l)
+        (ap (λ (z : List Q.Entry). K.told id 0 (K.moved id n z) (cellsOf base c) (cellsOf wrk c)) (sym head-queue)))
+
+  -- ANOTHER HEAD IS PUT BACK
+  module _ (ne : hd ≡ i → ⊥) (waiting : u .number ≡ 0) (a : Store) (wrk′ : List ℕ) (b : PutBack s base wrk c a wrk′) where
+    abbrev a₁ : Store
+    a₁ = withSlot (x .site) (headSlot (x .site) (slotAt (x .site .slots) i .class)) (asPutBack (slotAt (x .site .slots) (headSlot (x .site) (slotAt (x .site .slots) i .class))))
+
+    inside : hd < length (s .slots)
+    inside = omega (arith, w .slots, hd-small)
+
+    shaped₁ : Shaped a₁
+    shaped₁ = kept-shaped s w hd (asPutBack u) hd-small (w .ops hd hd-small) refl
+
+    laid₁ : Laid a₁
+    laid₁ = kept-laid s w (q .laid) hd hd-small (asPutBack u) refl refl (holds-kept u (asPutBack u) refl refl refl hd-holds)
+
+    -- the request's own slot is as it was
+    same-slot : slotAt (a₁ .slots) i ≡ v
+    same-slot = elsewhere (s .slots) hd (asPutBack u) inside i (λ e. ne (sym e))
+
+    of-class : u .class ≡ c
+    of-class = stands-class c u (times hd ps) (sym (q .laid .exactly-once c hd class-small) ∙ ap (times hd) head-places ∙ rw (eq-eqb hd hd refl))
+
+    once : times hd (places s c) ≡ 1
+    once = subst (λ (e : ℕ). times hd (places s e) ≡ 1) of-class (there s w (q .laid) base wrk hd hd-holds)
+
+    gone : times hd ps ≡ 0
+    gone = let e = ap (times hd) (sym head-places) ∙ once in let z : suc (times hd ps) ≡ 1 = rw (eq-eqb hd hd refl) at e in omega arith
+
+    back-is : queueOf a₁ c ≡ K.putBack (entryOf hd u) ∷ entries (s .slots) ps
+    back-is = ap (entries (a₁ .slots)) head-places ∙ back-queue (s .slots) hd ps inside gone
+
+    -- the other classes' queues
+    others₁ : (e : ℕ) → e < 16 → (e ≡ c → ⊥) → queueOf a₁ e ≡ queueOf s e
+    others₁ e m n′ =
+        entries-kept (s .slots) hd (asPutBack u) inside (places s e)
+        (q .laid .exactly-once e hd m ∙ rw (of-class, ne-eqb c e (λ z. n′ (sym z)), and-false (isUsed u)))
+
+    -- behind a waiting head all wait
+    all-wait : All Waiting (queueOf a₁ c)
+    all-wait = rw back-is (
+      waiting,
+      waits-all 0 (s .confirmations) (entryOf hd u) (entries (s .slots) ps)
+          (subst (λ (z : List Q.Entry). InOrder 0 (s .confirmations) z) head-queue (q .confirmed-before-waiting c class-small)) (le-ltb 0 (u .number) (omega arith)),
+    )
+
+    at-front : to ≡ 0
+    at-front = by-test (ltb 0 to)
+        (λ t. let z : 128 * c + 0 ≡ 128 * c = omega arith in
+        absurd (omega (arith, f .first .before 0 (ltb-true 0 to t), ap (λ (j : ℕ). slotAt (s .slots) (getD (s .queue) j 0) .number) z, waiting)))
+        (λ g. omega (arith, ltb-false 0 to g))
+
+    parts₁ : All Confirmed (take to (queueOf a₁ c)) × All Waiting (drop to (queueOf a₁ c))
+    parts₁ = rw at-front (tt, all-wait)
+
+    id-same : (j : ℕ) → slotAt (a₁ .slots) j .id ≡ slotAt (s .slots) j .id
+    id-same = by-slot (s .slots) hd (asPutBack u) inside (λ j y. y .id ≡ slotAt (s .slots) j .id) refl (λ j n′. refl)
+
+    ids₁ : Apart 128 (λ j. slotAt (a₁ .slots) j .id)
+    ids₁ g h l m e = id-same g ∙ q .ids-differ g h l m (sym (id-same g) ∙ e ∙ id-same h)
+
+    step₁ : K.confirmStep id n (p .class c) ≡ K.told id (u .id) (K.moved id n (queueOf a₁ c)) (cellsOf base c) (cellsOf wrk′ c)
+    unfolding K.confirmStep plain plainClass
+    step₁ =
+        ap (λ (z : List Q.Entry). K.confirmOn id n z (cellsOf base c) (cellsOf wrk c)) head-queue
+        ∙ rw (other-id ne, le-ltb 0 (u .number) (omega arith))
+        (ap (λ (z : List Q.Entry). K.told id (u .id) (K.moved id n z) (cellsOf base c) (cellsOf base c)) (sym back-is)
+        ∙ ap (λ (z : List ℕ). K.told id (u .id) (K.moved id n (queueOf a₁ c)) (cellsOf base c) z) (sym (b .own)))
+
+    module _ (t : Store) (d : Forward a₁ c i n from to t) where
+      abbrev own₁ : slotAt (a₁ .slots) i .class ≡ c
+      own₁ = ap (λ (y : Slot). y .class) same-slot
+
+      holds₁ : Holds (slotAt (a₁ .slots) i)
+      holds₁ = subst Holds (sym same-slot) holds
+
+      place₁ : PlaceOf a₁ c i from
+      place₁ = record { within = f .place .within; is = f .place .is }
+
+      is₁ : slotAt (a₁ .slots) i .id ≡ id
+      is₁ = id-same i ∙ f .is
+
+      told₁ : K.Did
+      told₁ = K.told id (u .id) (K.moved id n (queueOf a₁ c)) (cellsOf base c) (cellsOf wrk′ c)
+
+      means₁ : Same (plain t base wrk′) (S.inClass (plain a₁ base wrk′) c 1 told₁ .site)
+      unfolding told₁
+      means₁ = subst (λ (z : ℕ). Same (plain t base wrk′) (S.inClass (plain a₁ base wrk′) c 1 (K.told z (u .id) (K.moved z n (queueOf a₁ c)) (cellsOf base c) (cellsOf wrk′ c)) .site)) is₁
+          (forward-means a₁ t shaped₁ laid₁ c i n from to class-small own₁ holds₁ place₁ forward d ids₁ (parts₁ .0) (parts₁ .1) base wrk′ (u .id))
+
+      between : Same (S.inClass (plain a₁ base wrk′) c 1 told₁ .site) (S.inClass p c 1 told₁ .site)
+      unfolding plain plainClass told₁
+      between = same-in (plain a₁ base wrk′) p c 1 told₁ told₁
+          (λ e m n′. λ j. record { queue = others₁ e m n′ j; committed = cellsOf base e; working = b .others e n′ j }) refl refl refl refl
+
+      goes₁ : Goes t wrk′ (u .id)
+      unfolding told₁
+      goes₁ = goes t wrk′ (u .id) (K.moved id n (queueOf a₁ c)) (b .cells)
+          (ap length (d .slots) ∙ length-set (a₁ .slots) i _ ∙ shaped₁ .slots)
+          (kept a₁ t shaped₁ laid₁ c i n from to class-small own₁ holds₁ place₁ forward d i .0 ∙ is₁)
+          (forward-laid a₁ t shaped₁ laid₁ c i n from to class-small own₁ holds₁ place₁ forward d) step₁
+          (forward-queue a₁ t shaped₁ laid₁ c i n from to class-small own₁ holds₁ place₁ forward d ids₁ (parts₁ .0) (parts₁ .1)
+          ∙ ap (λ (z : ℕ). K.moved z n (queueOf a₁ c)) is₁)
+          (same-trans means₁ between)
+
+    pub head-put-back : (t : Store) → Forward a c i n from to t → Goes t wrk′ (u .id)
+    head-put-back t d = goes₁ t (subst (λ (z : Store). Forward z c i n from to t) (b .is) d)

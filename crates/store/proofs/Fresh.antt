@@ -1,0 +1,99 @@
+-- A fresh site is sound. Assumes nothing.
+use Prim.Native.Nat.{ℕ, _+_, _*_, _-_, _<_, _≤_}
+use native.Mathlib.Omega.{arith}
+use mathlib.Core.Path.{_≡_, refl, sym, ap, _∙_, subst}
+use mathlib.Core.Logic.{inl}
+use mathlib.Core.List.{List, [], map}
+use lib.Dec.{ltb}
+use lib.ListN.{length, take, drop, replicate, length-drop, length-replicate, getD-replicate, List·getD-eq-default}
+use lib.Seq.{ext-getD, length-take-le, getD-take, getD-drop}
+use borrow.Author.Tests.{ltb-true, ltb-false}
+use Rattle.plain.specs.Site as S
+use Rattle.places.specs.Moves.{part}
+use Rattle.plain.proofs.Tests.{by-test}
+use Rattle.plain.specs.Queue.{Entry, isConfirmed, count}
+use Rattle.plain.specs.Site.{sum}
+use Rattle.plain.specs.Sound.{InOrder}
+use Rattle.slots.specs.Meaning.{freeSlot, isUsed, noSlot, slotAt}
+use Rattle.slots.specs.declared.Slot.{Slot}
+use Rattle.plain.proofs.Sums.{sum-nothing}
+use Rattle.store.specs.Calls.{fresh}
+use Rattle.store.specs.Meaning.{Same, cellsOf, lenOf, places, plain, plainClass, queueOf}
+use Rattle.store.specs.Sound.{Cells, Rest, Sound, stands, times}
+use Rattle.usedmap.specs.Flags.{bitsOf, usedOf}
+
+module _ where
+  slot-free : (i : ℕ) → i < 128 → slotAt (fresh .slots) i ≡ freeSlot
+  unfolding fresh
+  slot-free i l = getD-replicate 128 i freeSlot noSlot l
+
+  slot-past : (i : ℕ) → 128 ≤ i → slotAt (fresh .slots) i ≡ noSlot
+  unfolding fresh
+  slot-past i h = List·getD-eq-default (replicate 128 freeSlot) noSlot {n = i} (omega (arith, length-replicate 128 freeSlot))
+
+  no-len : (c : ℕ) → c < 16 → lenOf fresh c ≡ 0
+  unfolding fresh
+  no-len c l = getD-replicate 16 c 0 0 l
+
+  no-place : (c : ℕ) → c < 16 → places fresh c ≡ []
+  no-place c l = ap (λ (n : ℕ). take n (part (fresh .queue) c)) (no-len c l)
+
+  no-queue : (c : ℕ) → c < 16 → queueOf fresh c ≡ []
+  no-queue c l = rw (no-place c l)
+
+  stands-not : (c i : ℕ) → stands c (slotAt (fresh .slots) i) ≡ 0
+  stands-not c i = by-test (ltb i 128)
+      (λ t. ap (stands c) (slot-free i (ltb-true i 128 t)))
+      (λ f. ap (stands c) (slot-past i (ltb-false i 128 f)))
+
+  zero-part : (c : ℕ) → c < 16 → part (fresh .queue) c ≡ replicate 128 0
+  unfolding fresh
+  zero-part c l =
+      let n : length (part (replicate 2048 0) c) ≡ 128 = length-take-le 128 (drop (128 * c) (replicate 2048 0)) (omega (arith, length-drop (128 * c) (replicate {A = ℕ} 2048 0), length-replicate {A = ℕ} 2048 0)) in
+      ext-getD 0 (part (replicate 2048 0) c) (replicate 128 0) (n ∙ sym (length-replicate {A = ℕ} 128 0)) (λ i k.
+      let m : i < 128 = omega arith in
+      getD-take 128 (drop (128 * c) (replicate 2048 0)) i 0 m ∙ getD-drop (128 * c) (replicate 2048 0) i 0 ∙ getD-replicate 2048 (128 * c + i) 0 0 (omega arith) ∙ sym (getD-replicate 128 i 0 0 m))
+
+  same-map : usedOf (fresh .low) (fresh .high) ≡ map isUsed (fresh .slots)
+  unfolding fresh usedOf bitsOf
+  same-map = refl
+
+  zero-both : {n : ℕ} → n ≡ 0 → fresh .confirmations ≡ fresh .commits + n
+  unfolding fresh
+  zero-both e = rw e
+
+  counts : fresh .confirmations ≡ fresh .commits + sum (λ c. count isConfirmed (queueOf fresh c)) 16
+  counts = zero-both (sum-nothing (λ c. count isConfirmed (queueOf fresh c)) 16 (λ c l. ap (λ (q : List Entry). count isConfirmed q) (no-queue c l)))
+
+  pub fresh-sound : (base : List ℕ) → Sound fresh base base
+  fresh-sound base = record {
+    laid = record {
+      free-or-valid = λ i l. inl (slot-free i l);
+      not-longer-than-128 = λ c l. rw (no-len c l) (omega arith);
+      exactly-once = λ c i l. ap (times i) (no-place c l) ∙ sym (stands-not c i);
+      past-the-end-zero = λ c l. rw (no-len c l) (zero-part c l);
+      map-agrees = same-map;
+    };
+    ids-differ = λ i j l m e. ap (λ (v : Slot). v .id) (slot-free i (omega arith));
+    confirmed-before-waiting = λ c l. subst (λ (q : List Entry). InOrder 0 (fresh .confirmations) q) (sym (no-queue c l)) tt;
+    numbers-differ = λ i j l m e. ap (λ (v : Slot). v .number) (slot-free i (omega arith));
+    counts-agree = counts;
+    only-a-head-done = λ c l. subst Rest (sym (no-queue c l)) tt;
+    working-cells-follow = λ c l. subst (λ (q : List Entry). Cells q (cellsOf base c) (cellsOf base c)) (sym (no-queue c l)) refl;
+  }
+
+  zero-cells : (c : ℕ) → c < 16 → cellsOf (replicate 1024 0) c ≡ replicate 64 0
+  zero-cells c l =
+      let n : length (cellsOf (replicate 1024 0) c) ≡ 64 = length-take-le 64 (drop (64 * c) (replicate 1024 0)) (omega (arith, length-drop (64 * c) (replicate {A = ℕ} 1024 0), length-replicate {A = ℕ} 1024 0)) in
+      ext-getD 0 (cellsOf (replicate 1024 0) c) (replicate 64 0) (n ∙ sym (length-replicate {A = ℕ} 64 0)) (λ i k.
+      let m : i < 64 = omega arith in
+      getD-take 64 (drop (64 * c) (replicate 1024 0)) i 0 m ∙ getD-drop (64 * c) (replicate 1024 0) i 0 ∙ getD-replicate 1024 (64 * c + i) 0 0 (omega arith) ∙ sym (getD-replicate 64 i 0 0 m))
+
+  -- .. and with all cells 0 it is the fresh plain site, from which histories start
+  pub fresh-means : Same (plain fresh (replicate 1024 0) (replicate 1024 0)) S.fresh
+  unfolding plain plainClass S.fresh fresh
+  fresh-means = record {
+    class = λ c l. λ i. record { queue = no-queue c l i; committed = zero-cells c l i; working = zero-cells c l i };
+    confirmations = refl;
+    commits = refl;
+  }

@@ -1,0 +1,41 @@
+-- The rules together, from what the pieces of the check say. Assumes nothing.
+use Prim.Native.Nat.{ℕ, _+_, _-_, _≤_}
+use native.Mathlib.Omega.{arith}
+use mathlib.Core.Path.{_≡_}
+use mathlib.Core.List.{List, map}
+use Rattle.slots.specs.Meaning.{isUsed}
+use Rattle.store.proofs.Flat.{ordered, past-of, places-of, tails-of}
+use Rattle.store.proofs.Tally.{queued-confirmed}
+use Rattle.store.specs.Checks.{CellsOk, Differ, PlacesOk, Tails, numbered}
+use Rattle.store.specs.Sound.{Laid, Once, Short, SlotsOk, Sound}
+use Rattle.store.specs.Store.{Shaped, Store}
+use Rattle.usedmap.specs.Flags.{usedOf}
+
+module _ (s : Store) (w : Shaped s) where
+  pub laid-of : SlotsOk s → Short (s .lens) → Tails (s .queue) (s .lens) → usedOf (s .low) (s .high) ≡ map isUsed (s .slots) → Once s → Laid s
+  laid-of a b t u o = record { free-or-valid = a; not-longer-than-128 = b; exactly-once = o; past-the-end-zero = λ c l. past-of s w b c l t; map-agrees = u }
+
+  module _ (base wrk : List ℕ) where
+    pub sound-of : Laid s → Differ (s .slots) → PlacesOk s → s .commits ≤ s .confirmations → s .confirmations - s .commits ≡ numbered (s .slots) 128 → CellsOk s base wrk → Sound s base wrk
+    sound-of h d p l n k = record {
+      laid = h;
+      ids-differ = d .ids;
+      confirmed-before-waiting = λ c m. ordered s w (h .not-longer-than-128) c m p .0;
+      numbers-differ = d .numbers;
+      counts-agree = omega (arith, queued-confirmed s w (h .free-or-valid) (h .exactly-once));
+      only-a-head-done = λ c m. ordered s w (h .not-longer-than-128) c m p .1;
+      working-cells-follow = k;
+    }
+
+    module _ (h : Sound s base wrk) where
+      pub tails-in : Tails (s .queue) (s .lens)
+      tails-in = tails-of s w (h .laid .not-longer-than-128) (h .laid .past-the-end-zero)
+
+      pub differ-in : Differ (s .slots)
+      differ-in = record { ids = h .ids-differ; numbers = h .numbers-differ }
+
+      pub places-in : PlacesOk s
+      places-in = places-of s w (h .laid .not-longer-than-128) (h .confirmed-before-waiting) (h .only-a-head-done)
+
+      pub tally-in : s .confirmations ≡ s .commits + numbered (s .slots) 128
+      tally-in = omega (arith, h .counts-agree, queued-confirmed s w (h .laid .free-or-valid) (h .laid .exactly-once))

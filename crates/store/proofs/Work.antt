@@ -1,0 +1,290 @@
+-- Work: the head's slot takes its next operation. Assumes nothing.
+use Prim.Native.Nat.{ℕ, zero, suc, _+_, _*_, _-_, _<_, _≤_}
+use native.Mathlib.Omega.{arith}
+use mathlib.Core.Path.{_≡_, refl, sym, ap, _∙_, subst}
+use mathlib.Core.Logic.{_⊎_, inl, inr}
+use mathlib.Core.Bool.{Bool, true, false, not, cond, _&&_}
+use mathlib.Core.Option.{Option, none, some, Option·getD}
+use mathlib.Core.List.{List, [], _∷_, _++_}
+use lib.Dec.{eqb, ltb}
+use lib.ListN.{length, getD, take, drop, set, replicate, length-set, List·getD-map}
+use lib.Seq.{getD-take, map-set-same}
+use borrow.Author.Tests.{eqb-false, eq-eqb, ne-eqb, lt-ltb, le-ltb, le-leb, lt-leb, ltb-true, ltb-false}
+use borrow.Rule.Slice.PartMut.{putMid, same-len-mid}
+use Rattle.plain.specs.Ops as P
+use Rattle.plain.specs.Queue as Q
+use Rattle.plain.specs.Steps as K
+use Rattle.plain.specs.Site as S
+use Rattle.cells.specs.Ops.{noOp, opOf}
+use Rattle.cells.specs.declared.Op.{Op}
+use Rattle.places.proofs.Parts.{put-apart, put-own}
+use Rattle.plain.proofs.Tests.{by-test, no}
+use Rattle.plain.specs.Sound.{Head, soFar}
+use Rattle.slots.proofs.Records.{ops-count}
+use Rattle.slots.specs.Meaning.{entryOf, freeSlot, isUsed, noSlot, opAt, requestOf, slotAt}
+use Rattle.slots.specs.Rules.{Holds}
+use Rattle.slots.specs.Steps.{StepDone, Marked, afterStep, triedBy}
+use Rattle.slots.specs.declared.Slot.{Slot}
+use Rattle.store.proofs.Canonical.{part-is, places-length}
+use Rattle.store.proofs.Cells.{lent, lent-long}
+use Rattle.store.proofs.Commit.{head-is, head-small, stands-class}
+use Rattle.store.proofs.Flat.{empty, head-holds}
+use Rattle.store.proofs.Offered.{accepted-call, not-done}
+use Rattle.store.proofs.Promise.{same-trans, sound-kept}
+use Rattle.store.proofs.Relaid.{Queued, at-stored, by-slot, entries-kept, means}
+use Rattle.plain.proofs.Sums.{sum-term}
+use Rattle.store.specs.Calls.{Did, RightCells, SoundState, State}
+use Rattle.store.specs.Meaning.{Same, cellsOf, entries, lenOf, places, plain, plainClass, queueOf}
+use Rattle.store.specs.Sound.{Cells, Laid, stands, times}
+use Rattle.store.specs.Steps.{Advanced, CommitDone, Commitable, headSlot, headTried, withSlot}
+use Rattle.store.specs.Store.{Shaped, Store}
+
+-- a slot in use takes another value of the same record: the site stays laid out, and no queue's places change
+module _ (s : Store) (w : Shaped s) (h : Laid s) (i : ℕ) (m : i < 128) (u : Slot) (id : u .id ≡ slotAt (s .slots) i .id) (class : u .class ≡ slotAt (s .slots) i .class) (holds : Holds u) where
+  inside : i < length (s .slots)
+  inside = omega (arith, w .slots)
+
+  stands-same : (c j : ℕ) → stands c (slotAt (set (s .slots) i u) j) ≡ stands c (slotAt (s .slots) j)
+  stands-same c j = by-slot (s .slots) i u inside (λ j x. stands c x ≡ stands c (slotAt (s .slots) j)) (rw (id, class)) (λ j n. refl) j
+
+  pub kept-laid : Laid (withSlot s i u)
+  kept-laid = record {
+    free-or-valid = λ j n. by-slot (s .slots) i u inside (λ j x. j < 128 → (x ≡ freeSlot) ⊎ Holds x) (λ n. inr holds) (λ j ne n. h .free-or-valid j n) j n;
+    not-longer-than-128 = h .not-longer-than-128;
+    exactly-once = λ c j l. h .exactly-once c j l ∙ sym (stands-same c j);
+    past-the-end-zero = h .past-the-end-zero;
+    map-agrees = h .map-agrees ∙ sym (map-set-same isUsed (s .slots) i u noSlot (ap (λ (n : ℕ). not (eqb n 0)) id));
+  }
+
+  pub kept-queued : (c : ℕ) → c < 16 → Queued s (withSlot s i u) c (places s c)
+  kept-queued c l =
+      let n = places-length s w h c l in
+      record {
+        fits = omega (arith, h .not-longer-than-128 c l);
+        len = sym n;
+        own = part-is s w h c l ∙ ap (λ (k : ℕ). places s c ++ replicate (128 - k) 0) (sym n);
+        others = λ d k ne. (refl, refl);
+      }
+
+-- the plain entry's next operation is the slot's
+module _ (i : ℕ) (v : Slot) (seven : length (v .ops) ≡ 7) (holds : Holds v) (left : v .done < v .count) (w : List ℕ) where
+  any-default : {A : Type 0} (l : List A) (n : ℕ) (d e : A) → n < length l → getD l n d ≡ getD l n e
+  any-default [] n d e k = absurd (omega arith)
+  any-default (x ∷ l) zero d e k = refl
+  any-default (x ∷ l) (suc n) d e k = any-default l n d e (omega arith)
+
+  pub tried-same : K.tried (entryOf i v) w ≡ triedBy v w
+  tried-same = ap (λ (o : P.Op). cond (eqb (v .mark) 0) (P.carry o w) none) is-op
+    where
+      is-op : getD (requestOf v .ops) (v .done) (P.put 0 0) ≡ opOf (opAt v (v .done))
+      is-op =
+          any-default (requestOf v .ops) (v .done) (P.put 0 0) (opOf noOp) (omega (arith, ops-count v seven holds))
+          ∙ List·getD-map opOf (take (v .count) (v .ops)) (v .done) noOp ∙ ap opOf (getD-take (v .count) (v .ops) (v .done) noOp left)
+
+-- two plain sites that differ in class c alone, and steps there that leave the same
+pub same-in : (a b : S.Site) (c more : ℕ) (d e : K.Did) → ((k : ℕ) → k < 16 → (k ≡ c → ⊥) → a .class k ≡ b .class k) → a .confirmations ≡ b .confirmations → a .commits ≡ b .commits
+    → d .class ≡ e .class → S.commitsBy (d .answer) ≡ S.commitsBy (e .answer) → Same (S.inClass a c more d .site) (S.inClass b c more e .site)
+same-in a b c more d e f g h k m = record {
+  class = λ j l. by-test (eqb j c) (λ t. rw t k) (λ n. rw n (f j l (eqb-false j c n)));
+  confirmations = ap (λ (n : ℕ). n + more) g;
+  commits = rw (h, m);
+}
+
+module _ (x : State) (w : Shaped (x .site)) (r : RightCells x) (q : SoundState x) (c : ℕ) where
+  abbrev s : Store
+  s = x .site
+
+  abbrev base : List ℕ
+  base = x .committed
+
+  abbrev wrk : List ℕ
+  wrk = x .working
+
+  abbrev p : S.Site
+  p = plain (x .site) (x .committed) (x .working)
+
+  abbrev k : S.Call
+  k = S.work c
+
+  pub work-class : 16 ≤ c → Did x k x (K.refused 10)
+  unfolding S.refusal
+  work-class h = not-done x k 10 r q (omega arith) (rw (le-leb 16 c h))
+
+  module _ (l : c < 16) where
+    pub work-empty : lenOf s c ≡ 0 → Did x k x (K.refused 11)
+    unfolding S.refusal plain plainClass
+    work-empty z = not-done x k 11 r q (omega arith) (rw (lt-leb 16 c l, ap K.idle (empty s w (q .laid .not-longer-than-128) c l z)))
+
+    module _ (has : 0 < lenOf s c) where
+      abbrev i : ℕ
+      i = headSlot s c
+
+      abbrev v : Slot
+      v = slotAt (s .slots) (headSlot s c)
+
+      abbrev ps : List ℕ
+      ps = drop 1 (places s c)
+
+      abbrev rest : List Q.Entry
+      rest = entries (s .slots) (drop 1 (places s c))
+
+      abbrev tr : Option (List ℕ)
+      tr = headTried s wrk c
+
+      abbrev u : Slot
+      u = afterStep v tr
+
+      abbrev cells : List ℕ
+      cells = Option·getD tr (cellsOf base c)
+
+      small : i < 128
+      small = head-small s w (q .laid) c l has
+
+      pub head-held : Holds v
+      head-held = head-holds s w (q .laid .not-longer-than-128) (q .laid .free-or-valid) (q .laid .exactly-once) c l has
+
+      long : length (requestOf v .ops) ≡ v .count
+      long = ops-count v (w .ops i small) head-held
+
+      head : queueOf s c ≡ entryOf i v ∷ rest
+      head = ap (entries (s .slots)) (head-is s w (q .laid) c l has)
+
+      pub head-sound : Head (entryOf i v) (cellsOf base c) (cellsOf wrk c)
+      head-sound = subst (λ (z : List Q.Entry). Cells z (cellsOf base c) (cellsOf wrk c)) head (q .working-cells-follow c l)
+
+      pub work-idle : v .done ≡ v .count → Did x k x (K.refused 11)
+      unfolding S.refusal plain plainClass
+      work-idle e = not-done x k 11 r q (omega arith) (rw (lt-leb 16 c l, ap K.idle head, long, le-leb (v .count) (v .done) (omega arith)))
+
+      pub work-left : (v .done ≡ v .count → ⊥) → v .done < v .count
+      work-left ne = omega (arith, head-sound .within, long)
+
+      -- a head that has declined has the committed cells
+      pub marked : Marked v (cellsOf base c) (cellsOf wrk c)
+      marked = by-run (soFar (entryOf i v) (cellsOf base c)) (head-sound .mark) (head-sound .cells)
+        where
+          by-run : (o : Option (List ℕ)) → v .mark ≡ P.markOf o → cellsOf wrk c ≡ Option·getD o (cellsOf base c) → Marked v (cellsOf base c) (cellsOf wrk c)
+          by-run none m e = inr (m, e)
+          by-run (some y) m e = inl m
+
+      -- where the head is confirmed, a commit is still to come
+      pub commits-less : 0 < v .number → s .commits < s .confirmations
+      commits-less n =
+          let f : Q.count Q.isConfirmed (queueOf s c) ≡ 1 + Q.count Q.isConfirmed rest = rw (head, lt-ltb 0 (v .number) n) in
+          omega (arith, q .counts-agree, sum-term (λ c. Q.count Q.isConfirmed (queueOf s c)) 16 c l)
+
+      module _ (left : v .done < v .count) where
+        accepted : S.refusal p k ≡ 0
+        unfolding S.refusal plain plainClass
+        accepted = rw (lt-leb 16 c l, ap K.idle head, long, lt-leb (v .count) (v .done) left)
+
+        abbrev did : K.Did
+        did = K.worked (entryOf i u) rest (cellsOf base c) cells
+
+        outcome : S.call p k ≡ S.inClass p c 0 did
+        unfolding S.act K.workStep plain plainClass
+        outcome = accepted-call p k accepted ∙ ap (S.inClass p c 0)
+            (ap (λ (z : List Q.Entry). K.workOn z (cellsOf base c) (cellsOf wrk c)) head
+            ∙ ap (λ (o : Option (List ℕ)). K.worked (K.advanced (entryOf i v) o) rest (cellsOf base c) (Option·getD o (cellsOf base c))) (tried-same i v (w .ops i small) head-held left (cellsOf wrk c)))
+
+        after-held : Holds u
+        after-held = record { count = head-held .count; coded = head-held .coded; rest = head-held .rest; valid = head-held .valid }
+
+        pub after-laid : Laid (withSlot s i u)
+        after-laid = kept-laid s w (q .laid) i small u refl refl after-held
+
+        once-here : times i (i ∷ ps) ≡ stands c v
+        once-here = ap (times i) (sym (head-is s w (q .laid) c l has)) ∙ q .laid .exactly-once c i l
+
+        gone : times i ps ≡ 0
+        gone = let e : suc (times i ps) ≡ stands c v = rw (eq-eqb i i refl) at once-here in omega (arith, at-most (isUsed v && eqb (v .class) c))
+          where
+            at-most : (b : Bool) → cond b 1 0 ≤ 1
+            at-most true = omega arith
+            at-most false = omega arith
+
+        queue-after : entries (set (s .slots) i u) (places s c) ≡ entryOf i u ∷ rest
+        queue-after =
+            ap (entries (set (s .slots) i u)) (head-is s w (q .laid) c l has)
+            ∙ rw (at-stored (s .slots) i u (omega (arith, w .slots, small)), entries-kept (s .slots) i u (omega (arith, w .slots, small)) ps gone)
+
+        others-after : (d : ℕ) → d < 16 → (d ≡ c → ⊥) → entries (set (s .slots) i u) (places s d) ≡ entries (s .slots) (places s d)
+        others-after d m ne = entries-kept (s .slots) i u (omega (arith, w .slots, small)) (places s d) (q .laid .exactly-once d i m ∙ rw (of-class, ne-eqb c d (λ e. ne (sym e))) (off (isUsed v)))
+          where
+            off : (b : Bool) → _≡_ {A = ℕ} (cond (b && false) 1 0) 0
+            off true = refl
+            off false = refl
+
+            of-class : v .class ≡ c
+            of-class = stands-class c v (times i ps) (sym once-here ∙ rw (eq-eqb i i refl))
+
+        module _ (wrk′ : List ℕ) (own : cellsOf wrk′ c ≡ cells) (others : (d : ℕ) → (d ≡ c → ⊥) → cellsOf wrk′ d ≡ cellsOf wrk d) (n : length wrk′ ≡ 1024) where
+          abbrev y : State
+          y = record { site = withSlot s i u; committed = x .committed; working = wrk′ }
+
+          -- the head stays at the head
+          stays : (a : K.Answer) → S.commitsBy a ≡ 0 → did ≡ record { class = record { queue = entryOf i u ∷ rest; committed = cellsOf base c; working = cells }; answer = a } → Did x k y a
+          stays a z e =
+              let o : S.call p k ≡ S.inClass p c 0 (record { class = record { queue = entryOf i u ∷ rest; committed = cellsOf base c; working = cells }; answer = a }) = outcome ∙ ap (S.inClass p c 0) e in
+              let m : Same (plain (withSlot s i u) base wrk′) (S.call p k .site) = rw o (means s (withSlot s i u) c (places s c) (kept-queued s w (q .laid) i small u refl refl after-held c l) base wrk base wrk′ 0 (record { class = record { queue = entryOf i u ∷ rest; committed = cellsOf base c; working = cells }; answer = a })
+              queue-after refl own others-after (λ d m ne. (refl, others d ne)) (omega arith) (rw z (omega arith))) in
+              record { cells = (r .0, n); sound = sound-kept x y k w (length-set (s .slots) i u ∙ w .slots) q after-laid m; site = m; answer = rw o }
+
+          pub work-stepped : suc (v .done) < v .count → Did x k y (K.stepped (v .id) (suc (v .done)))
+          work-stepped h = stays _ refl (rw (long, lt-leb (v .count) (suc (v .done)) h))
+
+          pub work-executed : v .count ≤ suc (v .done) → v .number ≡ 0 → Did x k y (K.executed (v .id))
+          work-executed h z = stays _ refl (rw (long, le-leb (v .count) (suc (v .done)) h, le-ltb 0 (v .number) (omega arith)))
+
+          between : Same (S.inClass (plain (withSlot s i u) base wrk′) c 0 (K.commit (entryOf i u) (entries (set (s .slots) i u) ps) (cellsOf wrk′ c)) .site)
+              (S.inClass p c 0 (K.commit (entryOf i u) rest cells) .site)
+          unfolding plain plainClass
+          between = same-in (plain (withSlot s i u) base wrk′) p c 0 (K.commit (entryOf i u) (entries (set (s .slots) i u) ps) (cellsOf wrk′ c)) (K.commit (entryOf i u) rest cells)
+              (λ d m ne. λ j. record { queue = others-after d m ne j; committed = cellsOf base d; working = others d ne j }) refl refl
+              (λ j. record { queue = entries-kept (s .slots) i u (omega (arith, w .slots, small)) ps gone j; committed = own j; working = own j }) refl
+
+          pub work-committed : v .count ≤ suc (v .done) → 0 < v .number → (t : Store) (base′ : List ℕ) → CommitDone (withSlot s i u) base wrk′ c t base′
+              → Did x k (record { site = t; committed = base′; working = wrk′ }) (K.committed (v .id) (v .number) (P.markOf tr) i)
+          work-committed h z t base′ d =
+              let e : did ≡ K.commit (entryOf i u) rest cells = rw (long, le-leb (v .count) (suc (v .done)) h, lt-ltb 0 (v .number) z) in
+              let o : S.call p k ≡ S.inClass p c 0 (K.commit (entryOf i u) rest cells) = outcome ∙ ap (S.inClass p c 0) e in
+              let m : Same (plain t base′ wrk′) (S.call p k .site) = rw o (same-trans (d .site (entryOf i u)) between) in
+              record { cells = (d .cells, n); sound = sound-kept x (record { site = t; committed = base′; working = wrk′ }) k w (d .slots ∙ length-set (s .slots) i u ∙ w .slots) q (d .laid) m; site = m; answer = rw o }
+
+        -- the same, of a site that is equal to that one
+        module _ (t : Store) (wrk′ : List ℕ) (a : Advanced s base wrk c t wrk′) where
+          abbrev here : Store → State
+          here z = record { site = z; committed = x .committed; working = wrk′ }
+
+          pub stepped-as : suc (v .done) < v .count → (n : ℕ) → n ≡ suc (v .done) → Did x k (here t) (K.stepped (v .id) n)
+          stepped-as h n e = rw e (subst (λ (z : Store). Did x k (here z) (K.stepped (v .id) (suc (v .done)))) (sym (a .is)) (work-stepped wrk′ (a .own) (a .others) (a .cells) h))
+
+          pub executed-as : v .count ≤ suc (v .done) → v .number ≡ 0 → Did x k (here t) (K.executed (v .id))
+          executed-as h e = subst (λ (z : Store). Did x k (here z) (K.executed (v .id))) (sym (a .is)) (work-executed wrk′ (a .own) (a .others) (a .cells) h e)
+
+          pub may-commit : 0 < v .number → s .confirmations ≤ 4294967295 → Commitable t base wrk′ c
+          may-commit n m = subst (λ (z : Store). Commitable z base wrk′ c) (sym (a .is))
+              (record { laid = after-laid; class = l; some = has; cells = (r .0, a .cells); count = omega (arith, commits-less n) })
+
+          pub committed-as : v .count ≤ suc (v .done) → 0 < v .number → (z : Store) (base′ : List ℕ) → CommitDone t base wrk′ c z base′
+              → Did x k (record { site = z; committed = base′; working = wrk′ }) (K.committed (v .id) (v .number) (slotAt (t .slots) i .mark) i)
+          committed-as h n z base′ d =
+              let e : slotAt (t .slots) i .mark ≡ P.markOf tr =
+              ap (λ (z : Store). slotAt (z .slots) i .mark) (a .is) ∙ ap (λ (y : Slot). y .mark) (at-stored (s .slots) i u (omega (arith, w .slots, small))) in
+              rw e (work-committed wrk′ (a .own) (a .others) (a .cells) h n z base′ (subst (λ (y : Store). CommitDone y base wrk′ c z base′) (a .is) d))
+
+-- the code's way to it: the class's part of the working cells, lent and back
+pub advanced-as : (s : Store) (base wrk : List ℕ) (c : ℕ) → c < 16 → length base ≡ 1024 → length wrk ≡ 1024 → (r : Slot) (after : List ℕ) → length after ≡ length (lent wrk c)
+    → StepDone (slotAt (s .slots) (headSlot s c)) (lent base c) (lent wrk c) r after
+    → Advanced s base wrk c (withSlot s (headSlot s c) r) (putMid (64 * c) (64 * c + 64 - 64 * c) wrk after)
+advanced-as s base wrk c l a b r after n d =
+    let e : 64 * c + 64 - 64 * c ≡ 64 = omega arith in
+    let d′ : StepDone (slotAt (s .slots) (headSlot s c)) (cellsOf base c) (cellsOf wrk c) r after = rw e at d in
+    let m : length after ≡ 64 = n ∙ lent-long wrk c b l in
+    rw e (record {
+      is = ap (withSlot s (headSlot s c)) (d′ .slot);
+      cells = same-len-mid (64 * c) 64 wrk after (rw e at n) ∙ b;
+      own = put-own (64 * c) 64 wrk after (omega arith) m ∙ d′ .cells;
+      others = λ k ne. put-apart (64 * c) 64 wrk after (omega arith) m (64 * k) 64
+          (by-test (ltb k c) (λ t. let y = ltb-true k c t in inl (omega arith)) (λ f. let y = ltb-false k c f in inr (omega arith)));
+    })

@@ -1,0 +1,80 @@
+-- Document 01, "Sound sites", of a site with its cells: its rules one by one. Assumes nothing.
+use Prim.Native.Nat.{ℕ, suc, _+_, _-_, _<_, _≤_}
+use mathlib.Core.Path.{_≡_}
+use mathlib.Core.Logic.{_⊎_}
+use mathlib.Core.Bool.{cond, _&&_}
+use mathlib.Core.List.{List, [], _∷_, map}
+use lib.Dec.{eqb}
+use lib.ListN.{getD, drop, replicate}
+use Rattle.plain.specs.Sizes.{classCount, slotCount}
+use Rattle.plain.specs.Queue.{Entry, isConfirmed, count}
+use Rattle.plain.specs.Site.{sum}
+use Rattle.plain.specs.Sound.{All, Untouched, InOrder, Head}
+use Rattle.usedmap.specs.Flags.{usedOf}
+use Rattle.places.specs.Moves.{part}
+use Rattle.slots.specs.declared.Slot.{Slot}
+use Rattle.slots.specs.Meaning.{freeSlot, slotAt, isUsed}
+use Rattle.slots.specs.Rules.{Holds}
+use Rattle.store.specs.Store.{Store}
+use Rattle.store.specs.Meaning.{lenOf, places, queueOf, cellsOf}
+
+-- how often i stands in a list
+abbrev pub times : ℕ → List ℕ → ℕ
+times i [] = 0
+times i (x ∷ xs) = cond (eqb x i) (suc (times i xs)) (times i xs)
+
+-- 1 where slot v is used and of class c, else 0
+abbrev pub stands : ℕ → Slot → ℕ
+stands c v = cond (isUsed v && eqb (v .class) c) 1 0
+
+-- each slot is free and all zero, or holds a valid record
+abbrev pub SlotsOk : Store → Type 0
+SlotsOk s = (i : ℕ) → i < slotCount → (slotAt (s .slots) i ≡ freeSlot) ⊎ Holds (slotAt (s .slots) i)
+
+-- no queue is longer than 128
+abbrev pub Short : List ℕ → Type 0
+Short lens = (c : ℕ) → c < classCount → getD lens c 0 ≤ slotCount
+
+-- every used slot stands exactly once, in the queue of its class, and no free slot stands in one
+abbrev pub Once : Store → Type 0
+Once s = (c i : ℕ) → c < classCount → times i (places s c) ≡ stands c (slotAt (s .slots) i)
+
+-- the rules of slots, queue places and the map
+pub record Laid (s : Store) : Type 0 where
+  pub free-or-valid : SlotsOk s
+  pub not-longer-than-128 : Short (s .lens)
+  pub exactly-once : Once s
+  -- queue places past the end are zero
+  pub past-the-end-zero : (c : ℕ) → c < classCount → drop (lenOf s c) (part (s .queue) c) ≡ replicate (slotCount - lenOf s c) 0
+  -- the map of used slots agrees
+  pub map-agrees : usedOf (s .low) (s .high) ≡ map isUsed (s .slots)
+
+-- of numbers in n places 0 may stand in several and any other in one
+abbrev pub Apart : ℕ → (ℕ → ℕ) → Type 0
+Apart n f = (i j : ℕ) → i < j → j < n → f i ≡ f j → f i ≡ 0
+
+-- only a head has anything done or is declined
+abbrev pub Rest : List Entry → Type 0
+Rest [] = Unit
+Rest (e ∷ q) = All Untouched q
+
+-- none has more done than it has operations, a confirmed head is not executed, it is marked declined exactly if one of its done operations
+-- declined, and the working cells are the committed ones with the head's done operations carried out on them (the four fields of Head), or
+-- equal to them where the queue is empty
+abbrev pub Cells : List Entry → List ℕ → List ℕ → Type 0
+Cells [] base w = w ≡ base
+Cells (e ∷ q) base w = Head e base w
+
+-- A SITE IS SOUND, with its cells
+pub record Sound (s : Store) (base wrk : List ℕ) : Type 0 where
+  pub laid : Laid s
+  pub ids-differ : Apart slotCount (λ i. slotAt (s .slots) i .id)
+  -- in each queue the confirmed stand before the waiting, with rising numbers; waiting ones have number 0; confirmed numbers lie between 1 and
+  -- the count of confirmations
+  pub confirmed-before-waiting : (c : ℕ) → c < classCount → InOrder 0 (s .confirmations) (queueOf s c)
+  -- confirmed numbers differ over the whole site
+  pub numbers-differ : Apart slotCount (λ i. slotAt (s .slots) i .number)
+  -- the count of confirmations equals the count of commits plus the confirmed requests queued
+  pub counts-agree : s .confirmations ≡ s .commits + sum (λ c. count isConfirmed (queueOf s c)) classCount
+  pub only-a-head-done : (c : ℕ) → c < classCount → Rest (queueOf s c)
+  pub working-cells-follow : (c : ℕ) → c < classCount → Cells (queueOf s c) (cellsOf base c) (cellsOf wrk c)

@@ -1,0 +1,132 @@
+-- What the steps do to the arrays and to a slot. Assumes nothing.
+use Prim.Native.Nat.{ℕ, _+_, _*_, _-_, _<_, _≤_}
+use mathlib.Core.Path.{_≡_}
+use mathlib.Core.Option.{Option, none, some, Option·getD}
+use mathlib.Core.List.{List, map}
+use Rattle.slots.specs.Steps.{triedBy, afterStep, Marked}
+use Rattle.places.specs.Moves.{Moved}
+use lib.ListN.{length, getD, drop, set}
+use Rattle.plain.specs.Queue as Q
+use Rattle.plain.specs.Steps as K
+use Rattle.plain.specs.Site as S
+use Rattle.slots.specs.Meaning.{slotAt}
+use Rattle.slots.specs.declared.Slot.{Slot}
+use Rattle.store.specs.Meaning.{Same, cellsOf, entries, lenOf, places, plain}
+use Rattle.store.specs.Sound.{Apart, Laid}
+use Rattle.store.specs.Store.{Store}
+
+-- slot i takes v and stands at the end of class c's queue; lo and hi are the new map
+abbrev pub placed : Store → ℕ → ℕ → Slot → ℕ → ℕ → Store
+placed s c i v lo hi = record {
+  slots = set (s .slots) i v;
+  queue = set (s .queue) (128 * c + lenOf s c) i;
+  lens = set (s .lens) c (lenOf s c + 1);
+  low = lo;
+  high = hi;
+  confirmations = s .confirmations;
+  commits = s .commits;
+}
+
+-- slot i takes v, and nothing else changes
+abbrev pub withSlot : Store → ℕ → Slot → Store
+withSlot s i v = record {
+  slots = set (s .slots) i v;
+  queue = s .queue;
+  lens = s .lens;
+  low = s .low;
+  high = s .high;
+  confirmations = s .confirmations;
+  commits = s .commits;
+}
+
+-- the slot at the head of class c
+abbrev pub headSlot : Store → ℕ → ℕ
+headSlot s c = getD (s .queue) (128 * c) 0
+
+-- class c has a head that may do its next operation
+pub record Workable (s : Store) (base wrk : List ℕ) (c : ℕ) : Type 0 where
+  pub laid : Laid s
+  pub class : c < 16
+  pub some : 0 < lenOf s c
+  pub cells : (length base ≡ 1024) × (length wrk ≡ 1024)
+  pub left : slotAt (s .slots) (headSlot s c) .done < slotAt (s .slots) (headSlot s c) .count
+  pub marked : Marked (slotAt (s .slots) (headSlot s c)) (cellsOf base c) (cellsOf wrk c)
+
+-- what that operation comes to
+abbrev pub headTried : Store → List ℕ → ℕ → Option (List ℕ)
+headTried s wrk c = triedBy (slotAt (s .slots) (headSlot s c)) (cellsOf wrk c)
+
+-- it is done: in the head's slot, and on the working cells of the class
+pub record Advanced (s : Store) (base wrk : List ℕ) (c : ℕ) (t : Store) (wrk′ : List ℕ) : Type 0 where
+  pub is : t ≡ withSlot s (headSlot s c) (afterStep (slotAt (s .slots) (headSlot s c)) (headTried s wrk c))
+  pub cells : length wrk′ ≡ 1024
+  pub own : cellsOf wrk′ c ≡ Option·getD (headTried s wrk c) (cellsOf base c)
+  pub others : (d : ℕ) → (d ≡ c → ⊥) → cellsOf wrk′ d ≡ cellsOf wrk d
+
+-- class c has a head that may commit
+pub record Commitable (s : Store) (base wrk : List ℕ) (c : ℕ) : Type 0 where
+  pub laid : Laid s
+  pub class : c < 16
+  pub some : 0 < lenOf s c
+  pub cells : (length base ≡ 1024) × (length wrk ≡ 1024)
+  pub count : s .commits < 4294967295
+
+-- laid out again, and the plain commit of class c
+pub record CommitDone (s : Store) (base wrk : List ℕ) (c : ℕ) (t : Store) (base′ : List ℕ) : Type 0 where
+  pub laid : Laid t
+  pub slots : length (t .slots) ≡ length (s .slots)
+  pub cells : length base′ ≡ 1024
+  pub site : (e : Q.Entry) → Same (plain t base′ wrk) (S.inClass (plain s base wrk) c 0 (K.commit e (entries (s .slots) (drop 1 (places s c))) (cellsOf wrk c)) .site)
+
+-- class c's queue can be counted: no slot in it has more done than it has operations, and ids differ
+pub record Countable (s : Store) (c : ℕ) : Type 0 where
+  pub laid : Laid s
+  pub class : c < 16
+  pub ids : Apart 128 (λ i. slotAt (s .slots) i .id)
+  pub within : (p : ℕ) → p < lenOf s c → slotAt (s .slots) (getD (s .queue) (128 * c + p) 0) .done ≤ slotAt (s .slots) (getD (s .queue) (128 * c + p) 0) .count
+
+-- a slot with its number, and a slot put back: nothing done, not declined
+abbrev pub withNumber : ℕ → Slot → Slot
+withNumber n v = record { id = v .id; class = v .class; count = v .count; ops = v .ops; number = n; done = v .done; mark = v .mark }
+
+abbrev pub asPutBack : Slot → Slot
+asPutBack v = record { id = v .id; class = v .class; count = v .count; ops = v .ops; number = v .number; done = 0; mark = 0 }
+
+-- class c's head is put back: its slot, and the working cells of the class
+pub record PutBack (s : Store) (base wrk : List ℕ) (c : ℕ) (t : Store) (wrk′ : List ℕ) : Type 0 where
+  pub is : t ≡ withSlot s (headSlot s c) (asPutBack (slotAt (s .slots) (headSlot s c)))
+  pub cells : length wrk′ ≡ 1024
+  pub own : cellsOf wrk′ c ≡ cellsOf base c
+  pub others : (d : ℕ) → (d ≡ c → ⊥) → cellsOf wrk′ d ≡ cellsOf wrk d
+
+-- slot i has its number, and one confirmation more is counted
+abbrev pub numberedStore : Store → ℕ → ℕ → Store
+numberedStore s i n = record {
+  slots = set (s .slots) i (withNumber n (slotAt (s .slots) i));
+  queue = s .queue;
+  lens = s .lens;
+  low = s .low;
+  high = s .high;
+  confirmations = s .confirmations + 1;
+  commits = s .commits;
+}
+
+-- the place of slot i in class c's queue
+pub record PlaceOf (s : Store) (c i p : ℕ) : Type 0 where
+  pub within : p < lenOf s c
+  pub is : getD (s .queue) (128 * c + p) 0 ≡ i
+
+-- the place of the first waiting one in class c's queue, or its length where none waits
+pub record FirstWaiting (s : Store) (c p : ℕ) : Type 0 where
+  pub within : p ≤ lenOf s c
+  pub before : (k : ℕ) → k < p → 0 < slotAt (s .slots) (getD (s .queue) (128 * c + k) 0) .number
+  pub waits : p < lenOf s c → slotAt (s .slots) (getD (s .queue) (128 * c + p) 0) .number ≡ 0
+
+-- slot i of class c has its number, its place `from` has moved forward to `to`, and one confirmation more is counted
+pub record Forward (s : Store) (c i n from to : ℕ) (t : Store) : Type 0 where
+  pub slots : t .slots ≡ numberedStore s i n .slots
+  pub queue : Moved (s .queue) (t .queue) c from to
+  pub lens : t .lens ≡ s .lens
+  pub map : (t .low ≡ s .low) × (t .high ≡ s .high)
+  pub confirmations : t .confirmations ≡ s .confirmations + 1
+  pub commits : t .commits ≡ s .commits
