@@ -1,0 +1,78 @@
+-- A fresh site is sound, every call leaves a sound site sound and its cells right, from fresh the requests accepted are the commits plus the
+-- requests queued, and W is at most 896. Assumes nothing.
+use Prim.Native.Nat.{ℕ, _+_, _≤_}
+use native.Mathlib.Omega.{arith}
+use mathlib.Core.Path.{_≡_, sym, ap, _∙_, subst}
+use mathlib.Core.Bool.{Bool, true}
+use mathlib.Core.List.{List}
+use Rattle.plain.specs.Sizes.{mostW}
+use Rattle.plain.specs.Ops.{Request}
+use Rattle.plain.specs.Queue.{count, owed}
+use Rattle.plain.specs.Steps.{Answer, refused, toDo, unconfirmed}
+use Rattle.plain.specs.Site as P
+use Rattle.plain.specs.Site.{Call, confirm, look, call, act, accepts, refusal, standing, classOf, entryAt, confirmedAt}
+use Rattle.plain.specs.Sound.{SoundSite}
+use Rattle.plain.specs.History.{after, offers, commits}
+use Rattle.plain.specs.Demands.{wOf}
+use Rattle.plain.proofs.Tests.{by-test}
+use Rattle.plain.proofs.Sites.{look-accepted}
+use Rattle.plain.proofs.Bounds as B
+use Rattle.plain.proofs.Logs as L
+use Rattle.store.specs.Store.{Store}
+use Rattle.store.specs.Calls.{State, RightCells, SoundState, Started, plainOf}
+use Rattle.store.proofs.Promise.{same-standing}
+use Rattle.promises.specs.Runs.{Happens, Ready, FromFresh}
+use Rattle.promises.proofs.Answers.{refused-answers}
+use Rattle.promises.proofs.Stands.{by-contract, plain-sound, begun, begins, answers-there, stands-fresh}
+
+-- SOUND SITES
+pub fresh-ready : {base wrk base′ wrk′ : List ℕ} {t : Store} → Started base wrk t 0 base′ wrk′
+    → Ready (record { site = t; committed = base′; working = wrk′ })
+fresh-ready s = begins (begun s) .0
+
+pub stays-sound : {x y : State} {k : Call} {a : Answer} → Happens x k y a → SoundState x → SoundState y
+stays-sound e s = by-contract e (λ _ d. d .sound) (λ n d. subst SoundState (sym (d .untouched)) s)
+
+pub stays-right : {x y : State} {k : Call} {a : Answer} → Happens x k y a → RightCells x → RightCells y
+stays-right e r = by-contract e (λ _ d. d .cells) (λ n d. subst RightCells (sym (d .untouched)) r)
+
+-- FROM FRESH
+pub answers : {h : List Call} {y z : State} {k : Call} {a : Answer} → FromFresh h y → Happens y k z a → a ≡ call (after h) k .answer
+unfolding after
+answers f e = answers-there (stands-fresh f) e .0
+
+pub accepted : {h : List Call} {y : State} → FromFresh h y → (f : Request → Bool)
+    → count f (offers h) ≡ count f (commits h) + standing (λ e. f (e .request)) (plainOf y)
+unfolding after
+accepted {h} {y} u f =
+    let q = same-standing (plainOf y) (after h) (stands-fresh u .same) (λ e. f (e .request)) in
+    L.accepted f h ∙ ap (λ (n : ℕ). count f (commits h) + n) (sym q)
+
+-- W, where the call acts; a refusal says 0
+pub w-bounded : {x y : State} {i n : ℕ} {a : Answer} → Happens x (confirm i n) y a → wOf a ≤ mostW
+w-bounded {x} {i = i} {n = n} e =
+    by-contract e
+    (λ r d. rw (d .answer) (B.confirm-bounded (plainOf x) (plain-sound (e .before) (r .1)) i n))
+    (λ m d. rw (d .answer) (omega arith))
+
+look-w : (s : P.Site) → SoundSite s → (i w : ℕ) → toDo w ≡ call s (look i) .answer → w ≤ mostW
+unfolding call act
+look-w s q i w e =
+    by-test (accepts s (look i))
+    (λ t. there t (rw t at e))
+    (λ f. let z : toDo w ≡ refused (refusal s (look i)) = e ∙ refused-answers s (look i) f in
+    let y : _≡_ {A = ℕ} 0 1 = cc in absurd (omega arith))
+  where
+    there : accepts s (look i) ≡ true → toDo w ≡ act s (look i) .answer → w ≤ mostW
+    there t e =
+        by-test (confirmedAt (entryAt s i))
+        (λ c. let z : toDo w ≡ toDo (owed i (s .class (classOf s i) .queue)) = rw c at e in
+        let v : w ≡ owed i (s .class (classOf s i) .queue) = cc in
+        omega (arith, v, B.w-bounded s q (classOf s i) (look-accepted s i t) i))
+        (λ c. let z : toDo w ≡ unconfirmed = rw c at e in let y : _≡_ {A = ℕ} 0 1 = cc in absurd (omega arith))
+
+pub left-bounded : {x y : State} {i w : ℕ} → Happens x (look i) y (toDo w) → w ≤ mostW
+left-bounded {x} {i = i} {w = w} e =
+    by-contract e
+    (λ r d. look-w (plainOf x) (plain-sound (e .before) (r .1)) i w (d .answer))
+    (λ m d. let z : toDo w ≡ refused m = d .answer in let y : _≡_ {A = ℕ} 0 1 = cc in absurd (omega arith))

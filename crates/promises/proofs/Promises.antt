@@ -1,0 +1,37 @@
+-- THE PROMISES ARE KEPT. Assumes nothing.
+use Rattle.promises.specs.Promises.{Promises}
+use Rattle.promises.proofs.Demand1 as One
+use Rattle.promises.proofs.Demand2 as Two
+use Rattle.promises.proofs.Demand3 as Three
+use Rattle.promises.proofs.Slots as S
+use Rattle.promises.proofs.Unique as U
+use Rattle.promises.proofs.Kept as K
+use Rattle.promises.proofs.Local as L
+
+pub promises : Promises
+promises = record {
+  demand-1 = One.demand-1;
+  fresh-refuses = One.fresh-refuses;
+  fresh-untouched = One.fresh-untouched;
+  demand-2 = Two.demand-2;
+  two-sites = Two.two-sites;
+  answers = K.answers;
+  demand-3 = Three.demand-3;
+  keeps-slot = S.keeps-slot;
+  free-slot = S.free-slot;
+  fresh-ready = K.fresh-ready;
+  stays-sound = K.stays-sound;
+  stays-right = K.stays-right;
+  accepted = K.accepted;
+  w-bounded = K.w-bounded;
+  left-bounded = K.left-bounded;
+  work-alike = L.work-alike;
+  read-alike = L.read-alike;
+  offer-alike = L.offer-alike;
+  confirm-alike = L.confirm-alike;
+  others-left = L.others-left;
+  one-outcome = U.one-outcome;
+  one-fresh = U.one-fresh;
+  one-run = U.one-run;
+  one-run-from-fresh = U.one-run-fresh;
+}

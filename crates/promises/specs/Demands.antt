@@ -1,0 +1,76 @@
+-- The mission's three demands and the slot promise, of calls that were made. Assumes nothing.
+use Prim.Native.Nat.{ℕ, suc, _-_, _<_, _≤_}
+use mathlib.Core.Path.{_≡_}
+use mathlib.Core.Logic.{_↔_, _⊎_}
+use mathlib.Core.Bool.{true}
+use mathlib.Core.List.{List}
+use lib.ListN.{length, take}
+use Rattle.plain.specs.Ops.{Request, runAll}
+use Rattle.plain.specs.Record.{requestIn}
+use Rattle.plain.specs.Steps.{Answer, refused, queued, toDo}
+use Rattle.plain.specs.Site.{Call, work, look, zeros, classOf, tests, refusal}
+use Rattle.plain.specs.Sound.{All}
+use Rattle.plain.specs.History.{confirmations, confirmedIn, committedIn}
+use Rattle.plain.specs.Demands.{Commits, Counted, wOf, Keeps, Frees, Gives}
+use Rattle.store.specs.Meaning.{cellsOf}
+use Rattle.store.specs.Calls.{State, RightCells, SoundState, plainOf}
+use Rattle.promises.specs.Runs.{Happens, Ready, Accepted, Run, start, more, wrong, worksIn}
+
+-- DEMAND 1, of a call k on x that handed back y and answered a: each refusal is given exactly when document 01's table says so, and touches nothing
+pub record Demand1 (x : State) (k : Call) (y : State) (a : Answer) : Type 0 where
+  -- 1 exactly when either run of cells is not 1,024 long
+  pub cells : (a ≡ refused 1) ↔ (RightCells x → ⊥)
+  -- else 2 exactly when the site is not sound
+  pub sound : RightCells x → (a ≡ refused 2) ↔ (SoundState x → ⊥)
+  -- else n, from 3 to 12, exactly when the table gives it, and where several apply the smallest
+  pub table : Ready x → (n : ℕ) → 0 < n → (a ≡ refused n) ↔ (refusal (plainOf x) k ≡ n)
+  pub numbers : Ready x → (n : ℕ) → a ≡ refused n → (3 ≤ n) × (n ≤ 12)
+  pub smallest : Ready x → (n : ℕ) → a ≡ refused n → All (λ t. t .0 ≡ true → n ≤ t .1) (tests (plainOf x) k)
+  -- no slot, no queue, no cell
+  pub untouched : (n : ℕ) → a ≡ refused n → y ≡ x
+
+-- DEMAND 2, of class c after the calls h from fresh: its committed cells are those got by running its committed requests one after another, and
+-- these are the first confirmed ones of the class; they were confirmed as 1, 2, 3, ..
+pub record Demand2 (h : List Call) (y : State) (c : ℕ) : Type 0 where
+  pub serial : cellsOf (y .committed) c ≡ runAll zeros (committedIn c h)
+  pub first-confirmed : committedIn c h ≡ take (length (committedIn c h)) (confirmedIn c h)
+  pub counted : Counted 0 (confirmations h)
+
+-- What holds after x accepted work calls for class c, of the W that the confirmation of i under n answered, while x is less than W
+pub record Waits (z : State) (c i n W x : ℕ) : Type 0 where
+  -- a work call for the class is not refused
+  pub works : (z′ : State) (a : Answer) → Happens z (work c) z′ a → Accepted a
+  -- and it commits the request exactly if it is the W-th
+  pub commits : suc x ≡ W → (z′ : State) (a : Answer) → Happens z (work c) z′ a → Commits a i n
+  pub no-sooner : suc x < W → (z′ : State) (a : Answer) → Happens z (work c) z′ a → Commits a i n → ⊥
+  -- look answers exactly what is left: no other call adds to it, and none puts the request back
+  pub says : (z′ : State) (a : Answer) → Happens z (look i) z′ a → a ≡ toDo (W - x)
+
+-- DEMAND 3, of an accepted confirmation of i under n on x, that handed back y and answered a: if W is 0 the request commits in that call;
+-- otherwise after any further calls, as long as fewer than W of them were accepted work calls for its class, it waits
+pub record Demand3 (x : State) (i n : ℕ) (y : State) (a : Answer) : Type 0 where
+  pub at-once : wOf a ≡ 0 → Commits a i n
+  pub later : 0 < wOf a → (h : List Call) (z : State) (r : Run y h z) → worksIn (classOf (plainOf x) i) r < wOf a
+      → Waits z (classOf (plainOf x) i) i n (wOf a) (worksIn (classOf (plainOf x) i) r)
+
+-- in a run a request was given slot j
+abbrev pub GivenIn : {x y : State} {h : List Call} → Run x h y → ℕ → Type 0
+GivenIn start j = ⊥
+GivenIn (more k z a r e) j = Gives a j ⊎ GivenIn r j
+GivenIn (wrong base wrk k z a r n e) j = GivenIn r j
+
+-- in a run a call freed the slot j of request q, and until then no other was given it
+abbrev pub FreedIn : {x y : State} {h : List Call} → Run x h y → Request → ℕ → Type 0
+FreedIn start q j = ⊥
+FreedIn (more {h} {y} k z a r e) q j =
+    (Frees (plainOf y) k (record { answer = a; site = plainOf z }) q j × (GivenIn r j → ⊥)) ⊎ FreedIn r q j
+FreedIn (wrong base wrk k z a r n e) q j = FreedIn r q j
+
+-- THE SLOT PROMISE, of an accepted offer of the record b that handed back y and answered a: the answer names a slot; and after any further calls the
+-- request keeps that slot and no other was given it, or one of the calls freed it
+pub record KeepsSlot (b : List ℕ) (y : State) (a : Answer) : Type 0 where
+  pub place : ℕ
+  pub slot : ℕ
+  pub says : a ≡ queued (requestIn b .id) (requestIn b .class) place slot
+  pub later : (h : List Call) (z : State) (r : Run y h z)
+      → (Keeps (plainOf z) (requestIn b) slot × (GivenIn r slot → ⊥)) ⊎ FreedIn r (requestIn b) slot
