@@ -38,7 +38,7 @@ fn byte_at(bytes: &[u8], at: usize) -> u32
 }
 
 // The 4-byte number that begins at byte `at`, low byte first.
-fn word_at(bytes: &[u8], at: usize) -> u32
+pub fn word_at(bytes: &[u8], at: usize) -> u32
     requires { ⌜ at + 4 ≤ length (now bytes) ⌝ }
     ensures { λ r. ⌜ r ≡ number (now (bytes .entry)) at ⌝ }
 {

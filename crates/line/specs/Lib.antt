@@ -1,0 +1,2 @@
+-- a line of output as text
+pub mod Text

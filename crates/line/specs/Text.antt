@@ -1,0 +1,59 @@
+-- A line of output, as document 01 has it: the event's place in the input, a word, numbers. Assumes nothing.
+use Prim.Native.Nat.{ℕ, zero, suc, _/_}
+use mathlib.Core.Bool.{cond}
+use mathlib.Core.List.{List, [], _∷_, _++_}
+use lib.Dec.{ltb}
+use lib.ListN.{take}
+use Rattle.io.specs.Digits.{digits}
+use Rattle.plain.specs.Steps.{Answer, refused, queued, stepped, executed, committed, waiting, value, toDo, unconfirmed}
+use Rattle.line.specs.declared.Line.{Line}
+
+-- how many decimal digits n has: one, and one more for each division by ten that leaves something; n divisions are enough
+unfoldable pub count : ℕ → ℕ → ℕ
+count zero n = 1
+count (suc most) n = cond (ltb n 10) 1 (suc (count most (n / 10)))
+
+-- a number's decimal digits in ASCII, with no zero in front
+unfoldable pub decimal : ℕ → List ℕ
+decimal n = digits 10 (count n n) n
+
+-- the words, in ASCII
+abbrev pub wordOf : Answer → List ℕ
+wordOf (refused reason) = 114 ∷ 101 ∷ 102 ∷ 117 ∷ 115 ∷ 101 ∷ 100 ∷ []
+wordOf (queued id class place slot) = 113 ∷ 117 ∷ 101 ∷ 117 ∷ 101 ∷ 100 ∷ []
+wordOf (stepped id done) = 115 ∷ 116 ∷ 101 ∷ 112 ∷ 112 ∷ 101 ∷ 100 ∷ []
+wordOf (executed id) = 101 ∷ 120 ∷ 101 ∷ 99 ∷ 117 ∷ 116 ∷ 101 ∷ 100 ∷ []
+wordOf (committed id number declined slot) = 99 ∷ 111 ∷ 109 ∷ 109 ∷ 105 ∷ 116 ∷ 116 ∷ 101 ∷ 100 ∷ []
+wordOf (waiting id w putBack) = 119 ∷ 97 ∷ 105 ∷ 116 ∷ 105 ∷ 110 ∷ 103 ∷ []
+wordOf (value cell) = 118 ∷ 97 ∷ 108 ∷ 117 ∷ 101 ∷ []
+wordOf (toDo w) = 116 ∷ 111 ∷ 45 ∷ 100 ∷ 111 ∷ []
+wordOf unconfirmed = 117 ∷ 110 ∷ 99 ∷ 111 ∷ 110 ∷ 102 ∷ 105 ∷ 114 ∷ 109 ∷ 101 ∷ 100 ∷ []
+
+-- the numbers after the word, in document 01's order
+abbrev pub numbersOf : Answer → List ℕ
+numbersOf (refused reason) = reason ∷ []
+numbersOf (queued id class place slot) = id ∷ class ∷ place ∷ slot ∷ []
+numbersOf (stepped id done) = id ∷ done ∷ []
+numbersOf (executed id) = id ∷ []
+numbersOf (committed id number declined slot) = id ∷ number ∷ declined ∷ slot ∷ []
+numbersOf (waiting id w putBack) = id ∷ w ∷ putBack ∷ []
+numbersOf (value cell) = cell ∷ []
+numbersOf (toDo w) = w ∷ []
+numbersOf unconfirmed = []
+
+-- each number with a blank before it
+unfoldable pub blanked : List ℕ → List ℕ
+blanked [] = []
+blanked (n ∷ ns) = (32 ∷ decimal n) ++ blanked ns
+
+-- the place, a blank, the word, the numbers, and a newline
+unfoldable pub lineWith : ℕ → List ℕ → List ℕ → List ℕ
+lineWith place word ns = decimal place ++ (32 ∷ word) ++ blanked ns ++ (10 ∷ [])
+
+-- the line of an answer to the event at a place
+abbrev pub lineOf : ℕ → Answer → List ℕ
+lineOf place a = lineWith place (wordOf a) (numbersOf a)
+
+-- what stands in a line so far
+abbrev pub written : Line → List ℕ
+written l = take (l .len) (l .bytes)

@@ -1,0 +1,249 @@
+//! The site in its plainest form: a queue and two runs of cells per class, two counts.
+
+use crate::answer::*;
+use crate::record::{parse, Op, Request, CELLS, CLASSES};
+
+/// Slots of a site, shared by all classes.
+pub const SLOTS: usize = 128;
+
+/// The 64 cells of a class.
+pub type Cells = [u32; CELLS];
+
+/// A queued request.
+#[derive(Clone, Debug, PartialEq, Eq)]
+pub struct Entry {
+    /// The request itself.
+    pub request: Request,
+    /// The slot it stands in.
+    pub slot: u8,
+    /// Its definitive number once confirmed; none while waiting.
+    pub number: Option<u32>,
+    /// How many of its operations are done.
+    pub done: usize,
+    /// Whether one of its done operations declined.
+    pub declined: bool,
+}
+
+impl Entry {
+    /// Whether all operations are done.
+    pub fn is_executed(&self) -> bool {
+        self.done == self.request.ops.len()
+    }
+
+    /// How many operations are still to do.
+    pub fn to_do(&self) -> usize {
+        self.request.ops.len() - self.done
+    }
+}
+
+/// One class: its queue, head first, and its cells.
+#[derive(Clone, Debug, PartialEq, Eq)]
+pub struct Class {
+    /// The queued requests, head first.
+    pub queue: Vec<Entry>,
+    /// The committed cells.
+    pub committed: Cells,
+    /// The working cells.
+    pub working: Cells,
+}
+
+/// One site.
+#[derive(Clone, Debug, PartialEq, Eq)]
+pub struct Site {
+    /// The classes, by number.
+    pub classes: Vec<Class>,
+    /// How many confirmations were taken.
+    pub confirmations: u32,
+    /// How many requests committed.
+    pub commits: u32,
+}
+
+impl Site {
+    /// A site with nothing queued, both counts 0 and all cells 0.
+    pub fn fresh() -> Site {
+        let class = Class { queue: Vec::new(), committed: [0; CELLS], working: [0; CELLS] };
+        Site { classes: vec![class; CLASSES], confirmations: 0, commits: 0 }
+    }
+
+    /// Offers a record: it joins the end of its class queue in the lowest free slot.
+    pub fn offer(&mut self, record: &[u8]) -> Answer {
+        let Some(request) = parse(record) else {
+            return Answer::Refused(BAD_RECORD);
+        };
+        if self.find(request.id).is_some() {
+            return Answer::Refused(ID_QUEUED);
+        }
+        let Some(slot) = self.lowest_free_slot() else {
+            return Answer::Refused(SITE_FULL);
+        };
+        let (id, class) = (request.id, request.class);
+        let queue = &mut self.classes[usize::from(class)].queue;
+        queue.push(Entry { request, slot, number: None, done: 0, declined: false });
+        Answer::Queued { id, class, place: queue.len(), slot }
+    }
+
+    /// Confirms a queued request under its definitive number.
+    pub fn confirm(&mut self, id: u32, number: u32) -> Answer {
+        if self.confirmations == u32::MAX {
+            return Answer::Refused(NUMBERS_USED_UP);
+        }
+        if number != self.confirmations + 1 {
+            return Answer::Refused(WRONG_NUMBER);
+        }
+        let Some((class, at)) = self.find(id) else {
+            return Answer::Refused(ID_NOT_QUEUED);
+        };
+        let entry = &mut self.classes[class].queue[at];
+        if entry.number.is_some() {
+            return Answer::Refused(CONFIRMED_ALREADY);
+        }
+        entry.number = Some(number);
+        let commits_now = at == 0 && entry.is_executed();
+        self.confirmations += 1;
+        if commits_now {
+            return self.commit(class, number);
+        }
+        let put_back = self.classes[class].put_waiting_head_back_for(at);
+        let at = self.classes[class].move_before_waiting(at);
+        Answer::Waiting { id, w: self.classes[class].to_do_up_to(at), put_back }
+    }
+
+    /// The head of a class does its next operation.
+    pub fn work(&mut self, class: u8) -> Answer {
+        let class = usize::from(class);
+        if class >= CLASSES {
+            return Answer::Refused(NO_SUCH_CLASS);
+        }
+        if self.classes[class].queue.first().is_none_or(Entry::is_executed) {
+            return Answer::Refused(NOTHING_TO_DO);
+        }
+        self.classes[class].step();
+        let head = &self.classes[class].queue[0];
+        let (id, done) = (head.request.id, head.done);
+        match head.number {
+            _ if !head.is_executed() => Answer::Stepped { id, done },
+            Some(number) => self.commit(class, number),
+            None => Answer::Executed { id },
+        }
+    }
+
+    /// Answers a committed cell.
+    pub fn read(&self, class: u8, cell: u8) -> Answer {
+        if usize::from(class) >= CLASSES {
+            return Answer::Refused(NO_SUCH_CLASS);
+        }
+        if usize::from(cell) >= CELLS {
+            return Answer::Refused(NO_SUCH_CELL);
+        }
+        Answer::Value(self.classes[usize::from(class)].committed[usize::from(cell)])
+    }
+
+    /// Answers how many work calls a confirmed request still needs.
+    pub fn look(&self, id: u32) -> Answer {
+        let Some((class, at)) = self.find(id) else {
+            return Answer::Refused(ID_NOT_QUEUED);
+        };
+        match self.classes[class].queue[at].number {
+            Some(_) => Answer::ToDo(self.classes[class].to_do_up_to(at)),
+            None => Answer::Unconfirmed,
+        }
+    }
+
+    /// All queued requests, class by class, head first.
+    pub fn entries(&self) -> impl Iterator<Item = &Entry> {
+        self.classes.iter().flat_map(|class| &class.queue)
+    }
+
+    /// How many requests are queued.
+    pub fn queued(&self) -> usize {
+        self.classes.iter().map(|class| class.queue.len()).sum()
+    }
+
+    /// The class and queue index of a queued id.
+    pub fn find(&self, id: u32) -> Option<(usize, usize)> {
+        self.classes.iter().enumerate().find_map(|(number, class)| {
+            let at = class.queue.iter().position(|entry| entry.request.id == id)?;
+            Some((number, at))
+        })
+    }
+
+    /// The lowest-numbered slot that no queued request stands in.
+    fn lowest_free_slot(&self) -> Option<u8> {
+        let mut used = [false; SLOTS];
+        for entry in self.entries() {
+            used[usize::from(entry.slot)] = true;
+        }
+        (0u8..).zip(used).find(|(_, used)| !used).map(|(slot, _)| slot)
+    }
+
+    /// The head of a class commits under its number.
+    fn commit(&mut self, class: usize, number: u32) -> Answer {
+        let class = &mut self.classes[class];
+        let head = class.queue.remove(0);
+        class.committed = class.working;
+        self.commits += 1;
+        let (id, declined, slot) = (head.request.id, head.declined, head.slot);
+        Answer::Committed { id, number, declined, slot }
+    }
+}
+
+impl Class {
+    /// The head does its next operation on the working cells.
+    fn step(&mut self) {
+        let head = &mut self.queue[0];
+        let op = head.request.ops[head.done];
+        head.done += 1;
+        if !head.declined && !carry_out(op, &mut self.working) {
+            head.declined = true;
+            self.working = self.committed;
+        }
+    }
+
+    /// Puts the head back if it is waiting and not the request at this index; its id or 0.
+    fn put_waiting_head_back_for(&mut self, at: usize) -> u32 {
+        let head = &mut self.queue[0];
+        if at == 0 || head.number.is_some() {
+            return 0;
+        }
+        head.done = 0;
+        head.declined = false;
+        self.working = self.committed;
+        head.request.id
+    }
+
+    /// Moves an entry to directly before the first waiting one; its new index.
+    fn move_before_waiting(&mut self, at: usize) -> usize {
+        let entry = self.queue.remove(at);
+        let first_waiting = self.queue.iter().position(|other| other.number.is_none());
+        let to = first_waiting.unwrap_or(self.queue.len());
+        self.queue.insert(to, entry);
+        to
+    }
+
+    /// The operations still to do by the entry at this index and by all before it.
+    fn to_do_up_to(&self, at: usize) -> usize {
+        self.queue[..=at].iter().map(Entry::to_do).sum()
+    }
+}
+
+/// Carries out one operation; false if it declines, and then the cells are as before.
+fn carry_out(op: Op, cells: &mut Cells) -> bool {
+    match op {
+        Op::Put { cell, amount } => cells[usize::from(cell)] = amount,
+        Op::Add { cell, amount } => {
+            let cell = &mut cells[usize::from(cell)];
+            *cell = cell.wrapping_add(amount);
+        }
+        Op::Need { cell, amount } => return cells[usize::from(cell)] >= amount,
+        Op::Move { cell, second, amount } => {
+            let (from, to) = (usize::from(cell), usize::from(second));
+            let left = cells[from].checked_sub(amount);
+            let given = cells[to].checked_add(amount);
+            let (Some(left), Some(given)) = (left, given) else {
+                return false;
+            };
+            (cells[from], cells[to]) = (left, given);
+        }
+    }
+    true
+}

@@ -1,0 +1,77 @@
+//! Counts of what the answers were.
+
+use crate::answer::{Answer, BAD_RECORD, NUMBERS_USED_UP};
+use crate::event::{word_of, BAD_EVENT, WORDS};
+use std::io::{self, Write};
+
+/// How often each answer occurred.
+#[derive(Clone, Debug, Default)]
+pub struct Tally {
+    /// How many streams were compared.
+    pub streams: u64,
+    /// How often each word occurred.
+    words: [u64; WORDS.len()],
+    /// How often each refusal occurred, by its number.
+    refusals: [u64; BAD_EVENT as usize + 1],
+    /// How many commits were declined.
+    declined: u64,
+    /// How many confirmations put a head back.
+    put_back: u64,
+    /// The largest W answered.
+    largest_w: usize,
+}
+
+impl Tally {
+    /// Counts an answer.
+    pub fn count(&mut self, answer: &Answer) {
+        self.words[word_of(answer)] += 1;
+        match *answer {
+            Answer::Refused(number) => self.refusals[usize::from(number)] += 1,
+            Answer::Committed { declined, .. } => self.declined += u64::from(declined),
+            Answer::Waiting { w, put_back, .. } => {
+                self.put_back += u64::from(put_back != 0);
+                self.largest_w = self.largest_w.max(w);
+            }
+            _ => {}
+        }
+    }
+
+    /// How many events were counted.
+    pub fn events(&self) -> u64 {
+        self.words.iter().sum()
+    }
+
+    /// The words, and the refusals that can be reached, that never occurred.
+    pub fn missing(&self) -> Vec<String> {
+        let words = WORDS.iter().zip(self.words).filter(|(_, count)| *count == 0);
+        let refusals = reachable().filter(|&number| self.refusals[usize::from(number)] == 0);
+        let words = words.map(|(word, _)| word.to_string());
+        words.chain(refusals.map(|number| format!("refused {number}"))).collect()
+    }
+
+    /// Writes the counts as a table.
+    pub fn write_to(&self, out: &mut impl Write) -> io::Result<()> {
+        writeln!(out, "{} events in {} streams compared", self.events(), self.streams)?;
+        let words = WORDS.iter().zip(self.words);
+        let refusals = reachable().map(|number| (number, self.refusals[usize::from(number)]));
+        for (word, count) in words {
+            row(out, word, count)?;
+        }
+        for (number, count) in refusals {
+            row(out, &format!("refused {number}"), count)?;
+        }
+        row(out, "commits declined", self.declined)?;
+        row(out, "heads put back", self.put_back)?;
+        row(out, "largest W", self.largest_w as u64)
+    }
+}
+
+/// The refusals a driving program can reach: 6 would take 4,294,967,295 confirmations.
+fn reachable() -> impl Iterator<Item = u8> {
+    (BAD_RECORD..=BAD_EVENT).filter(|&number| number != NUMBERS_USED_UP)
+}
+
+/// Writes one row of the table.
+fn row(out: &mut impl Write, name: &str, count: u64) -> io::Result<()> {
+    writeln!(out, "{name:<18}{count:>12}")
+}

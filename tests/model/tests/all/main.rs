@@ -1,0 +1,15 @@
+//! The tests of the model, one file for each part of the rules.
+
+mod compare;
+mod demands;
+mod edges;
+mod errors;
+mod event;
+mod help;
+mod ledger;
+mod record;
+mod refusals;
+mod sound;
+mod stream;
+mod thirteen;
+mod typed;
