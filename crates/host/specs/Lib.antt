@@ -1,0 +1,2 @@
+-- an answer as the numbers that a host reads
+pub mod Told

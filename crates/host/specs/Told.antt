@@ -1,0 +1,37 @@
+-- What a host reads of an answer: six numbers, and what a host's call does with its site, cells and numbers. Assumes nothing.
+use Prim.Native.Nat.{ℕ, zero, suc}
+use mathlib.Core.Path.{_≡_}
+use mathlib.Core.List.{List, [], _∷_}
+use Rattle.plain.specs.Steps.{Answer, refused, queued, stepped, executed, committed, waiting, value, toDo, unconfirmed}
+use Rattle.plain.specs.Site.{Call}
+use Rattle.store.specs.Store.{Store}
+use Rattle.store.specs.Calls.{State, Called, Started}
+
+-- what an answer is, then its numbers in document 01's order, then zeros
+abbrev pub told : Answer → List ℕ
+told (refused reason) = 0 ∷ reason ∷ 0 ∷ 0 ∷ 0 ∷ 0 ∷ []
+told (queued id class place slot) = 1 ∷ id ∷ class ∷ place ∷ slot ∷ 0 ∷ []
+told (stepped id done) = 2 ∷ id ∷ done ∷ 0 ∷ 0 ∷ 0 ∷ []
+told (executed id) = 3 ∷ id ∷ 0 ∷ 0 ∷ 0 ∷ 0 ∷ []
+told (committed id number declined slot) = 4 ∷ id ∷ number ∷ declined ∷ slot ∷ 0 ∷ []
+told (waiting id w putBack) = 5 ∷ id ∷ w ∷ putBack ∷ 0 ∷ 0 ∷ []
+told (value cell) = 6 ∷ cell ∷ 0 ∷ 0 ∷ 0 ∷ 0 ∷ []
+told (toDo w) = 7 ∷ w ∷ 0 ∷ 0 ∷ 0 ∷ 0 ∷ []
+told unconfirmed = 8 ∷ 0 ∷ 0 ∷ 0 ∷ 0 ∷ 0 ∷ []
+
+-- fresh has its own: 9 where it started a site, or the refusal
+abbrev pub toldFresh : ℕ → List ℕ
+toldFresh zero = 9 ∷ 0 ∷ 0 ∷ 0 ∷ 0 ∷ 0 ∷ []
+toldFresh (suc n) = told (refused (suc n))
+
+-- A HOST'S CALL: the call beneath was made, and the numbers are those of its answer
+pub record Told (x : State) (k : Call) (y : State) (numbers : List ℕ) : Type 0 where
+  pub answer : Answer
+  pub called : Called x k y answer
+  pub says : numbers ≡ told answer
+
+-- A HOST'S FRESH START: the start beneath was made, and the numbers say whether it was refused
+pub record ToldFresh (base wrk : List ℕ) (site : Store) (base' wrk' numbers : List ℕ) : Type 0 where
+  pub reason : ℕ
+  pub started : Started base wrk site reason base' wrk'
+  pub says : numbers ≡ toldFresh reason

@@ -1,0 +1,185 @@
+// The calls for hosts in C and Rust: a site by value in and out, cells and record as slices, the answer as six numbers in a lent array.
+ghost use mathlib.Core.Path.{_≡_};
+ghost use Rattle.plain.specs.Site.{offer, confirm, work, read, look};
+ghost use Rattle.site.specs.Held.{store, stateOf, answerOf};
+ghost use Rattle.host.specs.Told.{told, toldFresh, Told, ToldFresh};
+use site::Answer;
+use site::Site;
+
+// The answer of a call: what it is, then its numbers in document 01's order, then zeros.
+pub const NUMBERS: usize = 6;
+
+// What the first number says.
+const REFUSED: u64 = 0;
+
+const QUEUED: u64 = 1;
+
+const STEPPED: u64 = 2;
+
+const EXECUTED: u64 = 3;
+
+const COMMITTED: u64 = 4;
+
+const WAITING: u64 = 5;
+
+const VALUE: u64 = 6;
+
+const TO_DO: u64 = 7;
+
+const UNCONFIRMED: u64 = 8;
+
+const STARTED: u64 = 9;
+
+// An answer as its six numbers.
+fn numbers_of(answer: Answer) -> [u64; NUMBERS]
+    ensures { λ r. ⌜ r ≡ told (answerOf answer) ⌝ }
+{
+    match answer {
+        Answer::Refused(n) => [REFUSED, n as u64, 0, 0, 0, 0],
+        Answer::Queued {
+            id,
+            class,
+            place,
+            slot,
+        } => [
+            QUEUED,
+            id as u64,
+            class as u64,
+            place as u64,
+            slot as u64,
+            0,
+        ],
+        Answer::Stepped { id, done } => [STEPPED, id as u64, done as u64, 0, 0, 0],
+        Answer::Executed { id } => [EXECUTED, id as u64, 0, 0, 0, 0],
+        Answer::Committed {
+            id,
+            number,
+            mark,
+            slot,
+        } => [
+            COMMITTED,
+            id as u64,
+            number as u64,
+            mark as u64,
+            slot as u64,
+            0,
+        ],
+        Answer::Waiting { id, w, back } => [WAITING, id as u64, w as u64, back as u64, 0, 0],
+        Answer::Value(n) => [VALUE, n as u64, 0, 0, 0, 0],
+        Answer::ToDo(w) => [TO_DO, w as u64, 0, 0, 0, 0],
+        Answer::Unconfirmed => [UNCONFIRMED, 0, 0, 0, 0, 0],
+    }
+}
+
+// The six numbers of a fresh start that was refused under a number, or was not.
+fn numbers_of_fresh(refused: u8) -> [u64; NUMBERS]
+    ensures { λ r. ⌜ r ≡ toldFresh refused ⌝ }
+{
+    if refused == 0 {
+        return [STARTED, 0, 0, 0, 0, 0];
+    }
+    [REFUSED, refused as u64, 0, 0, 0, 0]
+}
+
+// Clears both runs of cells and hands back a fresh site; or refuses with 1 and hands back an empty one.
+#[no_mangle]
+pub extern "C" fn shpendorak_fresh(
+    committed: &mut [u32],
+    working: &mut [u32],
+    answer: &mut [u64; NUMBERS],
+) -> Site
+    ensures { λ r. ⌜ ToldFresh (now (committed .entry)) (now (working .entry)) (store r) (now (committed .exit)) (now (working .exit)) (now (answer .exit)) ⌝ }
+{
+    let started = Site::fresh(committed, working);
+    let site = started.site;
+    *answer = numbers_of_fresh(started.refused);
+    site
+}
+
+// Queues the request of a record; or refuses with 1, 2, 3, 4 or 5.
+#[no_mangle]
+pub extern "C" fn shpendorak_offer(
+    site: Site,
+    committed: &[u32],
+    working: &[u32],
+    booking: &[u8],
+    answer: &mut [u64; NUMBERS],
+) -> Site
+    ensures { λ r. ⌜ Told (stateOf site (now (committed .entry)) (now (working .entry))) (offer (now (booking .entry))) (stateOf r (now (committed .entry)) (now (working .entry))) (now (answer .exit)) ⌝ }
+{
+    let reply = site.offer(committed, working, booking);
+    let next = reply.site;
+    let given = reply.answer;
+    *answer = numbers_of(given);
+    next
+}
+
+// Confirms a queued id under the next number; or refuses with 1, 2, 6, 7, 8 or 9.
+#[no_mangle]
+pub extern "C" fn shpendorak_confirm(
+    site: Site,
+    committed: &mut [u32],
+    working: &mut [u32],
+    id: u64,
+    number: u64,
+    answer: &mut [u64; NUMBERS],
+) -> Site
+    ensures { λ r. ⌜ Told (stateOf site (now (committed .entry)) (now (working .entry))) (confirm id number) (stateOf r (now (committed .exit)) (now (working .exit))) (now (answer .exit)) ⌝ }
+{
+    let reply = site.confirm(committed, working, id, number);
+    let next = reply.site;
+    let given = reply.answer;
+    *answer = numbers_of(given);
+    next
+}
+
+// The head of a class does its next operation; or refuses with 1, 2, 10 or 11.
+#[no_mangle]
+pub extern "C" fn shpendorak_work(
+    site: Site,
+    committed: &mut [u32],
+    working: &mut [u32],
+    class: u64,
+    answer: &mut [u64; NUMBERS],
+) -> Site
+    ensures { λ r. ⌜ Told (stateOf site (now (committed .entry)) (now (working .entry))) (work class) (stateOf r (now (committed .exit)) (now (working .exit))) (now (answer .exit)) ⌝ }
+{
+    let reply = site.work(committed, working, class);
+    let next = reply.site;
+    let given = reply.answer;
+    *answer = numbers_of(given);
+    next
+}
+
+// The committed cell of a class; or refuses with 1, 2, 10 or 12. The site stays as it is.
+#[no_mangle]
+pub extern "C" fn shpendorak_read(
+    site: Site,
+    committed: &[u32],
+    working: &[u32],
+    class: u64,
+    cell: u64,
+    answer: &mut [u64; NUMBERS],
+) -> Site
+    ensures { λ r. ⌜ Told (stateOf site (now (committed .entry)) (now (working .entry))) (read class cell) (stateOf r (now (committed .entry)) (now (working .entry))) (now (answer .exit)) ⌝ }
+{
+    let given = site.read(committed, working, class, cell);
+    *answer = numbers_of(given);
+    site
+}
+
+// W of a confirmed request, or that it is unconfirmed; or refuses with 1, 2 or 8. The site stays as it is.
+#[no_mangle]
+pub extern "C" fn shpendorak_look(
+    site: Site,
+    committed: &[u32],
+    working: &[u32],
+    id: u64,
+    answer: &mut [u64; NUMBERS],
+) -> Site
+    ensures { λ r. ⌜ Told (stateOf site (now (committed .entry)) (now (working .entry))) (look id) (stateOf r (now (committed .entry)) (now (working .entry))) (now (answer .exit)) ⌝ }
+{
+    let given = site.look(committed, working, id);
+    *answer = numbers_of(given);
+    site
+}

@@ -1,0 +1,168 @@
+/* The calls of a site, for C and C++, over the proved archive libhost.a.
+ *
+ * A site has 16 classes of 64 cells and 128 slots for requests. The host owns the site and two
+ * runs of 1,024 cells, committed and working; cell k of class c stands at 64c + k. It hands the
+ * site in by value and goes on with the one handed back; the cells and the record are lent.
+ *
+ * Any site, cells, record and numbers are taken. What is wrong is refused: the site comes back and
+ * the cells stay as they were. Nothing has to be checked before a call, but for what C cannot say:
+ * each pointer points to as many elements as its length says and is not null, not even where the
+ * length is 0; the answer has six numbers; what a call may write overlaps nothing else it is lent.
+ *
+ * A site is plain data. It may be copied, stored and brought back; one that is damaged is refused.
+ * A call that is not given const cells may change them, and keeps no pointer.
+ */
+#ifndef SHPENDORAK_H
+#define SHPENDORAK_H
+
+#include <stddef.h>
+#include <stdint.h>
+
+#ifdef __cplusplus
+extern "C" {
+#endif
+
+/* Sizes. */
+#define SHPENDORAK_CLASSES 16       /* classes are 0 to 15 */
+#define SHPENDORAK_CELLS 64         /* cells of a class are 0 to 63 */
+#define SHPENDORAK_RUN_LENGTH 1024  /* cells in a run: 16 times 64 */
+#define SHPENDORAK_SLOTS 128        /* slots are 0 to 127, shared by all classes */
+#define SHPENDORAK_PLACES 2048      /* queue places: 16 times 128 */
+#define SHPENDORAK_MOST_OPS 7       /* a request has 1 to 7 operations */
+#define SHPENDORAK_RECORD_BYTES 64  /* bytes of a request record */
+#define SHPENDORAK_NUMBERS 6        /* numbers of an answer */
+
+/* The request record, 64 bytes, numbers low byte first:
+ *   0-3 id, not 0;  4 class;  5 number of operations, 1 to 7;  6-7 zero;  8-63 seven operations.
+ * An operation, 8 bytes: code, cell, second cell, zero, then a 4-byte amount. The second cell is
+ * zero except for a move, where it differs from the cell. Operations past the number are zero. */
+enum shpendorak_code {
+    SHPENDORAK_PUT = 1,  /* the cell becomes the amount */
+    SHPENDORAK_ADD = 2,  /* the amount is added to the cell modulo 2^32 */
+    SHPENDORAK_NEED = 3, /* declines if the cell is less than the amount */
+    SHPENDORAK_MOVE = 4  /* takes the amount from the cell for the second cell, or declines */
+};
+
+/* What an answer is: its first number. The others follow in this order, then zeros. */
+enum shpendorak_answer {
+    SHPENDORAK_REFUSED = 0,     /* the refusal's number */
+    SHPENDORAK_QUEUED = 1,      /* id, class, place in its queue (1 is the head), slot */
+    SHPENDORAK_STEPPED = 2,     /* id, operations done */
+    SHPENDORAK_EXECUTED = 3,    /* id */
+    SHPENDORAK_COMMITTED = 4,   /* id, number, mark (1 if it declined, else 0), slot */
+    SHPENDORAK_WAITING = 5,     /* id, W, the id put back or 0 */
+    SHPENDORAK_VALUE = 6,       /* the committed cell */
+    SHPENDORAK_TO_DO = 7,       /* W */
+    SHPENDORAK_UNCONFIRMED = 8, /* no numbers */
+    SHPENDORAK_STARTED = 9      /* no numbers */
+};
+
+/* Why a call did not act. Where several apply, the smallest is given. */
+enum shpendorak_refusal {
+    SHPENDORAK_WRONG_CELLS = 1,       /* either run of cells is not 1,024 long: all calls */
+    SHPENDORAK_UNSOUND = 2,           /* the site is not sound: all calls but fresh */
+    SHPENDORAK_BAD_RECORD = 3,        /* the record is not 64 bytes or breaks a rule: offer */
+    SHPENDORAK_ID_QUEUED = 4,         /* the id is queued: offer */
+    SHPENDORAK_SITE_FULL = 5,         /* 128 requests are queued: offer */
+    SHPENDORAK_NUMBERS_USED_UP = 6,   /* 4,294,967,295 confirmations were taken: confirm */
+    SHPENDORAK_WRONG_NUMBER = 7,      /* the number is not the confirmations plus 1: confirm */
+    SHPENDORAK_ID_NOT_QUEUED = 8,     /* the id is not queued: confirm, look */
+    SHPENDORAK_CONFIRMED_ALREADY = 9, /* the request is confirmed already: confirm */
+    SHPENDORAK_NO_SUCH_CLASS = 10,    /* the class is above 15: work, read */
+    SHPENDORAK_NOTHING_TO_DO = 11,    /* the queue is empty, or its head is executed: work */
+    SHPENDORAK_NO_SUCH_CELL = 12      /* the cell is above 63: read */
+};
+
+/* One operation of a request. */
+typedef struct shpendorak_op {
+    uint8_t code;    /* enum shpendorak_code */
+    uint8_t cell;    /* 0 to 63 */
+    uint8_t second;  /* the second cell of a move, else 0 */
+    uint32_t amount;
+} shpendorak_op;
+
+/* A request and how far it has come. A free slot is all zero. */
+typedef struct shpendorak_slot {
+    uint32_t id;                            /* 0 in a free slot */
+    uint8_t class_number;                   /* its class */
+    uint8_t count;                          /* how many operations it has */
+    shpendorak_op ops[SHPENDORAK_MOST_OPS]; /* those past the count are zero */
+    uint32_t number;                        /* its definitive number, 0 while it waits */
+    uint8_t done;                           /* how many operations are done */
+    uint8_t mark;                           /* 1 if a done operation declined, else 0 */
+} shpendorak_slot;
+
+/* A site. Place p of class c, from 0, stands at 128c + p of the queue. */
+typedef struct shpendorak_site {
+    shpendorak_slot slots[SHPENDORAK_SLOTS];
+    uint8_t queue[SHPENDORAK_PLACES];  /* slot numbers; places past a queue's end are zero */
+    uint8_t lens[SHPENDORAK_CLASSES];  /* how long each queue is */
+    uint64_t low;                      /* the map of used slots: bit i is slot i */
+    uint64_t high;                     /* and of slots 64 to 127 */
+    uint32_t confirmations;            /* how many confirmations were taken */
+    uint32_t commits;                  /* how many requests committed */
+} shpendorak_site;
+
+/* Fresh: clears all 2,048 cells and hands back a site with nothing queued and both counts 0.
+ * Answers STARTED. Refuses WRONG_CELLS: no cell is touched, and the site handed back is empty but
+ * does not count as a fresh one. */
+shpendorak_site shpendorak_fresh(uint32_t *committed, size_t committed_len,
+                                 uint32_t *working, size_t working_len,
+                                 uint64_t answer[SHPENDORAK_NUMBERS]);
+
+/* Offer, when a record came off the wire: the lowest-numbered free slot takes it, and the request
+ * joins the end of its class queue, waiting.
+ * Answers QUEUED id, class, place, slot.
+ * Refuses WRONG_CELLS, UNSOUND, BAD_RECORD, ID_QUEUED, SITE_FULL. */
+shpendorak_site shpendorak_offer(shpendorak_site site,
+                                 const uint32_t *committed, size_t committed_len,
+                                 const uint32_t *working, size_t working_len,
+                                 const uint8_t *booking, size_t booking_len,
+                                 uint64_t answer[SHPENDORAK_NUMBERS]);
+
+/* Confirm, when an id came with its definitive number: an executed head commits. Any other request
+ * moves to directly before the first waiting one; a waiting head that is another request is put
+ * back and has nothing done.
+ * Answers COMMITTED id, number, mark, slot; or WAITING id, W, put-back: the request commits at
+ * exactly the W-th work call for its class that is not refused.
+ * Refuses WRONG_CELLS, UNSOUND, NUMBERS_USED_UP, WRONG_NUMBER, ID_NOT_QUEUED, CONFIRMED_ALREADY. */
+shpendorak_site shpendorak_confirm(shpendorak_site site,
+                                   uint32_t *committed, size_t committed_len,
+                                   uint32_t *working, size_t working_len,
+                                   uint64_t id, uint64_t number,
+                                   uint64_t answer[SHPENDORAK_NUMBERS]);
+
+/* Work: the head of a class does its next operation on the working cells. If that was its last, a
+ * confirmed head commits: its class's working cells become the committed ones and its slot is free.
+ * Answers STEPPED id, done; EXECUTED id, if it was the last of a waiting head; or COMMITTED id,
+ * number, mark, slot.
+ * Refuses WRONG_CELLS, UNSOUND, NO_SUCH_CLASS, NOTHING_TO_DO. */
+shpendorak_site shpendorak_work(shpendorak_site site,
+                                uint32_t *committed, size_t committed_len,
+                                uint32_t *working, size_t working_len,
+                                uint64_t class_number,
+                                uint64_t answer[SHPENDORAK_NUMBERS]);
+
+/* Read: a committed cell. The site comes back as it was.
+ * Answers VALUE.
+ * Refuses WRONG_CELLS, UNSOUND, NO_SUCH_CLASS, NO_SUCH_CELL. */
+shpendorak_site shpendorak_read(shpendorak_site site,
+                                const uint32_t *committed, size_t committed_len,
+                                const uint32_t *working, size_t working_len,
+                                uint64_t class_number, uint64_t cell,
+                                uint64_t answer[SHPENDORAK_NUMBERS]);
+
+/* Look: how far a queued request has come. The site comes back as it was.
+ * Answers TO_DO W, if it is confirmed; or UNCONFIRMED.
+ * Refuses WRONG_CELLS, UNSOUND, ID_NOT_QUEUED. */
+shpendorak_site shpendorak_look(shpendorak_site site,
+                                const uint32_t *committed, size_t committed_len,
+                                const uint32_t *working, size_t working_len,
+                                uint64_t id,
+                                uint64_t answer[SHPENDORAK_NUMBERS]);
+
+#ifdef __cplusplus
+}
+#endif
+
+#endif

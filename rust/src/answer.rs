@@ -1,0 +1,120 @@
+//! What a call answers, and why it refuses.
+
+use crate::raw::{self, Numbers};
+use std::error::Error;
+use std::fmt;
+
+/// What a call answers when it acts.
+#[derive(Clone, Copy, Debug, PartialEq, Eq)]
+#[non_exhaustive]
+pub enum Answer {
+    /// The request was taken, at a place of its class queue (1 is the head) and in a slot.
+    Queued { id: u32, class: u32, place: u32, slot: u32 },
+    /// The head did an operation and has more to do.
+    Stepped { id: u32, done: u32 },
+    /// The waiting head did its last operation and waits for its number.
+    Executed { id: u32 },
+    /// The request committed; the mark is 1 if it declined, else 0, and its slot is free.
+    Committed { id: u32, number: u32, mark: u32, slot: u32 },
+    /// The request is confirmed and commits at the w-th accepted work call for its class; a head
+    /// was put back, or none (0).
+    Waiting { id: u32, w: u32, put_back: u32 },
+    /// The committed cell.
+    Value(u32),
+    /// The request is confirmed and needs so many more accepted work calls for its class to commit.
+    ToDo(u32),
+    /// The request is queued and not confirmed.
+    Unconfirmed,
+    /// The site is fresh.
+    Started,
+}
+
+/// Why a call did not act: the table of document 01, under its numbers.
+#[derive(Clone, Copy, Debug, PartialEq, Eq, Hash)]
+#[non_exhaustive]
+#[repr(u8)]
+pub enum Refusal {
+    WrongCells = 1,
+    Unsound = 2,
+    BadRecord = 3,
+    IdQueued = 4,
+    SiteFull = 5,
+    NumbersUsedUp = 6,
+    WrongNumber = 7,
+    IdNotQueued = 8,
+    ConfirmedAlready = 9,
+    NoSuchClass = 10,
+    NothingToDo = 11,
+    NoSuchCell = 12,
+}
+
+/// Every refusal and what it means.
+const MEANINGS: [(Refusal, &str); 12] = [
+    (Refusal::WrongCells, "a run of cells is not 1,024 long"),
+    (Refusal::Unsound, "the site is not sound"),
+    (Refusal::BadRecord, "the record is not 64 bytes or breaks a rule"),
+    (Refusal::IdQueued, "the id is queued"),
+    (Refusal::SiteFull, "128 requests are queued"),
+    (Refusal::NumbersUsedUp, "4,294,967,295 confirmations were taken"),
+    (Refusal::WrongNumber, "the number is not the count of confirmations plus 1"),
+    (Refusal::IdNotQueued, "the id is not queued"),
+    (Refusal::ConfirmedAlready, "the request is confirmed already"),
+    (Refusal::NoSuchClass, "the class is above 15"),
+    (Refusal::NothingToDo, "the queue is empty, or its head is executed"),
+    (Refusal::NoSuchCell, "the cell is above 63"),
+];
+
+impl Refusal {
+    /// Its number in document 01.
+    pub fn number(self) -> u8 {
+        self as u8
+    }
+
+    /// The refusal with a number; none if document 01 has no such refusal of a call.
+    pub fn numbered(number: u64) -> Option<Refusal> {
+        let mut known = MEANINGS.iter().map(|(refusal, _)| *refusal);
+        known.find(|refusal| u64::from(refusal.number()) == number)
+    }
+
+    /// What it means, in words.
+    pub fn meaning(self) -> &'static str {
+        let row = MEANINGS.iter().find(|(refusal, _)| *refusal == self);
+        row.expect("every refusal has a meaning").1
+    }
+}
+
+impl fmt::Display for Refusal {
+    /// Its number and what it means.
+    fn fmt(&self, out: &mut fmt::Formatter) -> fmt::Result {
+        write!(out, "refused {}: {}", self.number(), self.meaning())
+    }
+}
+
+impl Error for Refusal {}
+
+/// The answer or the refusal that six numbers say; panics at numbers that no answer has.
+pub fn answered(numbers: &Numbers) -> Result<Answer, Refusal> {
+    let [what, first, second, third, fourth, _] = numbers.map(|number| {
+        u32::try_from(number).unwrap_or_else(|_| panic!("{number} is in no answer of a site"))
+    });
+    Ok(match u64::from(what) {
+        raw::QUEUED => Answer::Queued { id: first, class: second, place: third, slot: fourth },
+        raw::STEPPED => Answer::Stepped { id: first, done: second },
+        raw::EXECUTED => Answer::Executed { id: first },
+        raw::COMMITTED => {
+            Answer::Committed { id: first, number: second, mark: third, slot: fourth }
+        }
+        raw::WAITING => Answer::Waiting { id: first, w: second, put_back: third },
+        raw::VALUE => Answer::Value(first),
+        raw::TO_DO => Answer::ToDo(first),
+        raw::UNCONFIRMED => Answer::Unconfirmed,
+        raw::STARTED => Answer::Started,
+        raw::REFUSED => return Err(refusal(first)),
+        _ => panic!("an answer of the unknown kind {what}"),
+    })
+}
+
+/// The refusal with a number that the archive gave.
+fn refusal(number: u32) -> Refusal {
+    Refusal::numbered(number.into()).unwrap_or_else(|| panic!("the unknown refusal {number}"))
+}

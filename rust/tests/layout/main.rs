@@ -1,0 +1,38 @@
+//! The layout of the structs: tables written by hand, held against Rust's view of the structs and
+//! against the bytes that the archive writes.
+//!
+//! The archive is called here with a site of plain bytes, so that what it writes is found at the
+//! table's bytes or not at all. After each call every byte of every field is compared; bytes
+//! between fields are nobody's.
+
+mod hosted;
+mod table;
+
+use hosted::Hosted;
+use shpendorak::raw::{CLASSES, SLOTS};
+
+#[test]
+fn every_slot_and_every_queue_place_is_where_the_table_says() {
+    for class in 0..CLASSES {
+        let mut hosted = Hosted::fresh();
+        for slot in 0..SLOTS {
+            hosted.offer(slot, class);
+        }
+    }
+}
+
+#[test]
+fn numbers_counts_done_and_mark_are_where_the_table_says() {
+    let (class, count) = (5, 0x0D0C_0B0A);
+    let mut hosted = Hosted::fresh();
+    hosted.raise_counts(count);
+    for slot in 0..SLOTS {
+        hosted.offer(slot, class);
+    }
+    for slot in 0..SLOTS {
+        hosted.confirm(slot, count + 1 + slot as u32);
+    }
+    for slot in 0..SLOTS {
+        hosted.work_off(slot, class, SLOTS - slot, count + 1 + slot as u32);
+    }
+}

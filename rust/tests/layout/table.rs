@@ -1,0 +1,97 @@
+//! The tables of the structs, written by hand.
+
+use shpendorak::raw::{self, CLASSES, MOST_OPS, SLOTS};
+
+/// Where a field starts in its struct, and how many bytes it has.
+#[derive(Clone, Copy)]
+pub struct Field {
+    pub at: usize,
+    pub bytes: usize,
+}
+
+impl Field {
+    /// The same field in a struct that starts at a byte.
+    pub fn from(self, start: usize) -> Field {
+        Field { at: start + self.at, ..self }
+    }
+
+    /// One of the equal parts of a field that is an array.
+    pub fn part(self, place: usize, parts: usize) -> Field {
+        let bytes = self.bytes / parts;
+        Field { at: self.at + place * bytes, bytes }
+    }
+}
+
+/// The bytes of a field that is reached by a function.
+fn bytes_of<Whole, Part>(_: fn(&Whole) -> &Part) -> usize {
+    size_of::<Part>()
+}
+
+/// The table of a struct: its bytes, each field's first byte and number of bytes; and a test that
+/// Rust lays the struct out so.
+macro_rules! table {
+    ($name:ident, $whole:ident, $size:literal, $($field:ident $at:literal $bytes:literal,)*) => {
+        pub mod $name {
+            use super::{Field, bytes_of, raw::$whole};
+            use std::mem::offset_of;
+
+            pub const SIZE: usize = $size;
+
+            $(pub fn $field() -> Field {
+                Field { at: $at, bytes: $bytes }
+            })*
+
+            pub fn all() -> Vec<Field> {
+                vec![$($field()),*]
+            }
+
+            #[test]
+            fn is_as_rust_has_it() {
+                assert_eq!(size_of::<$whole>(), SIZE);
+                $(
+                    assert_eq!(offset_of!($whole, $field), $at, stringify!($field));
+                    assert_eq!(bytes_of(|whole: &$whole| &whole.$field), $bytes);
+                )*
+            }
+        }
+    };
+}
+
+table!(op, Op, 8, code 0 1, cell 1 1, second 2 1, amount 4 4,);
+table!(slot, Slot, 72, id 0 4, class 4 1, count 5 1, ops 8 56, number 64 4, done 68 1, mark 69 1,);
+table!(
+    site, Site, 11_304,
+    slots 0 9_216, queue 9_216 2_048, lens 11_264 16, low 11_280 8, high 11_288 8,
+    confirmations 11_296 4, commits 11_300 4,
+);
+
+/// Where a slot's struct starts.
+pub fn start_of(slot: usize) -> usize {
+    site::slots().part(slot, SLOTS).at
+}
+
+/// A queue place of a class.
+pub fn place(class: usize, place: usize) -> Field {
+    site::queue().part(class * SLOTS + place, CLASSES * SLOTS)
+}
+
+/// The length of a class's queue.
+pub fn len(class: usize) -> Field {
+    site::lens().part(class, CLASSES)
+}
+
+/// Every field that is no struct: of the operations, the slots and the site.
+pub fn every_field() -> Vec<Field> {
+    let own = site::all().into_iter().filter(|field| field.at != site::slots().at);
+    own.chain((0..SLOTS).flat_map(|slot| fields_of_slot(start_of(slot)))).collect()
+}
+
+/// The fields of a slot that starts at a byte, with those of its operations.
+fn fields_of_slot(start: usize) -> Vec<Field> {
+    let own = slot::all().into_iter().filter(|field| field.at != slot::ops().at);
+    let ops = (0..MOST_OPS).flat_map(|op| {
+        let start_of_op = slot::ops().part(op, MOST_OPS).at;
+        op::all().into_iter().map(move |field| field.from(start_of_op))
+    });
+    own.chain(ops).map(|field| field.from(start)).collect()
+}

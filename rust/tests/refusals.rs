@@ -1,0 +1,123 @@
+//! The refusals by the wrapper, under their numbers and in words; a refusal changes nothing.
+
+use shpendorak::{Answer, RUN_LENGTH, Refusal, Site};
+
+/// A site with its cells.
+struct Hosted {
+    site: Site,
+    committed: Vec<u32>,
+    working: Vec<u32>,
+}
+
+/// What a call gives.
+type Given = Result<Answer, Refusal>;
+
+impl Hosted {
+    /// A fresh site.
+    fn fresh() -> Hosted {
+        let (mut committed, mut working) = (vec![1; RUN_LENGTH], vec![1; RUN_LENGTH]);
+        let site = Site::fresh(&mut committed, &mut working).expect("both runs are right");
+        assert!(committed.iter().chain(&working).all(|cell| *cell == 0));
+        Hosted { site, committed, working }
+    }
+
+    /// Offers a put of 1 into cell 0.
+    fn offer(&mut self, id: u8, class: u8) -> Given {
+        let mut booking = [0; 64];
+        [booking[0], booking[4], booking[5], booking[8], booking[12]] = [id, class, 1, 1, 1];
+        self.site.offer(&self.committed, &self.working, &booking)
+    }
+
+    /// Confirms an id under a number.
+    fn confirm(&mut self, id: u64, number: u64) -> Given {
+        self.site.confirm(&mut self.committed, &mut self.working, id, number)
+    }
+
+    /// Works for a class.
+    fn work(&mut self, class: u64) -> Given {
+        self.site.work(&mut self.committed, &mut self.working, class)
+    }
+
+    /// Reads a cell.
+    fn read(&self, class: u64, cell: u64) -> Given {
+        self.site.read(&self.committed, &self.working, class, cell)
+    }
+
+    /// Looks at an id.
+    fn look(&self, id: u64) -> Given {
+        self.site.look(&self.committed, &self.working, id)
+    }
+}
+
+#[test]
+fn numbers_and_words_are_those_of_document_01() {
+    let shown: Vec<String> =
+        (0..=14).filter_map(Refusal::numbered).map(|refusal| refusal.to_string()).collect();
+    assert_eq!(
+        shown,
+        [
+            "refused 1: a run of cells is not 1,024 long",
+            "refused 2: the site is not sound",
+            "refused 3: the record is not 64 bytes or breaks a rule",
+            "refused 4: the id is queued",
+            "refused 5: 128 requests are queued",
+            "refused 6: 4,294,967,295 confirmations were taken",
+            "refused 7: the number is not the count of confirmations plus 1",
+            "refused 8: the id is not queued",
+            "refused 9: the request is confirmed already",
+            "refused 10: the class is above 15",
+            "refused 11: the queue is empty, or its head is executed",
+            "refused 12: the cell is above 63",
+        ]
+    );
+}
+
+#[test]
+fn each_refusal_comes_from_a_call() {
+    let mut hosted = Hosted::fresh();
+    assert_eq!(hosted.offer(0, 3), Err(Refusal::BadRecord));
+    assert_eq!(hosted.offer(7, 3), Ok(Answer::Queued { id: 7, class: 3, place: 1, slot: 0 }));
+    assert_eq!(hosted.offer(7, 4), Err(Refusal::IdQueued));
+    assert_eq!(hosted.look(7), Ok(Answer::Unconfirmed));
+    assert_eq!(hosted.look(7 + (1 << 32)), Err(Refusal::IdNotQueued));
+    assert_eq!(hosted.confirm(7, 2), Err(Refusal::WrongNumber));
+    assert_eq!(hosted.confirm(8, 1), Err(Refusal::IdNotQueued));
+    assert_eq!(hosted.confirm(7, 1), Ok(Answer::Waiting { id: 7, w: 1, put_back: 0 }));
+    assert_eq!(hosted.confirm(7, 2), Err(Refusal::ConfirmedAlready));
+    assert_eq!(hosted.look(7), Ok(Answer::ToDo(1)));
+    assert_eq!(hosted.work(16), Err(Refusal::NoSuchClass));
+    assert_eq!(hosted.work(3 + 256), Err(Refusal::NoSuchClass));
+    assert_eq!(hosted.work(4), Err(Refusal::NothingToDo));
+    assert_eq!(hosted.read(3, 64), Err(Refusal::NoSuchCell));
+    let committed = Answer::Committed { id: 7, number: 1, mark: 0, slot: 0 };
+    assert_eq!(hosted.work(3), Ok(committed));
+    assert_eq!(hosted.read(3, 0), Ok(Answer::Value(1)));
+}
+
+#[test]
+fn a_full_site_and_the_last_number_refuse() {
+    let mut hosted = Hosted::fresh();
+    for id in 1..=128 {
+        hosted.offer(id, 15).expect("a slot is free");
+    }
+    assert_eq!(hosted.offer(129, 0), Err(Refusal::SiteFull));
+    (hosted.site.confirmations, hosted.site.commits) = (u32::MAX, u32::MAX);
+    assert_eq!(hosted.confirm(1, 1 << 32), Err(Refusal::NumbersUsedUp));
+}
+
+#[test]
+fn wrong_cells_and_unsound_sites_are_refused_and_left() {
+    let mut hosted = Hosted::fresh();
+    hosted.offer(7, 3).expect("the record is valid");
+    hosted.working.push(0);
+    let before = hosted.site;
+    assert_eq!(hosted.offer(8, 3), Err(Refusal::WrongCells));
+    hosted.working.pop();
+    hosted.site.low = 0;
+    let damaged = hosted.site;
+    assert_eq!(hosted.offer(8, 3), Err(Refusal::Unsound));
+    assert_eq!(hosted.site, damaged);
+    hosted.site = before;
+    assert_eq!(hosted.work(3), Ok(Answer::Executed { id: 7 }));
+    assert_eq!(Site::fresh(&mut hosted.committed[1..], &mut []), Err(Refusal::WrongCells));
+}

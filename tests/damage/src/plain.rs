@@ -1,0 +1,129 @@
+//! A sound subject as the model's plain queues, and back to its arrays.
+
+use crate::subject::Subject;
+use crate::view::queue;
+use model::answer::Answer;
+use model::record::{Op, Request};
+use model::site::{Class, Entry, Site};
+use shpendorak::raw::{self, CELLS, CLASSES, Numbers, SLOTS, Slot};
+
+/// The plain queues that a sound subject stands for.
+pub fn to_plain(subject: &Subject) -> Site {
+    let classes = (0..CLASSES).map(|class| class_of(subject, class)).collect();
+    let raw::Site { confirmations, commits, .. } = subject.site;
+    Site { classes, confirmations, commits }
+}
+
+/// One class of a sound subject.
+fn class_of(subject: &Subject, class: usize) -> Class {
+    let cells = class * CELLS..(class + 1) * CELLS;
+    let slots = &subject.site.slots;
+    let entries = queue(&subject.site, class).iter();
+    Class {
+        queue: entries.map(|&slot| entry_of(&slots[usize::from(slot)], slot)).collect(),
+        committed: subject.committed[cells.clone()].try_into().expect("a class has 64 cells"),
+        working: subject.working[cells].try_into().expect("a class has 64 cells"),
+    }
+}
+
+/// The queued request of a used slot.
+fn entry_of(slot: &Slot, number: u8) -> Entry {
+    let ops = slot.ops[..usize::from(slot.count)].iter().map(op_of).collect();
+    Entry {
+        request: Request { id: slot.id, class: slot.class, ops },
+        slot: number,
+        number: (slot.number != 0).then_some(slot.number),
+        done: usize::from(slot.done),
+        declined: slot.mark != 0,
+    }
+}
+
+/// The model's form of a valid operation.
+fn op_of(op: &raw::Op) -> Op {
+    let raw::Op { code, cell, second, amount } = *op;
+    match code {
+        raw::PUT => Op::Put { cell, amount },
+        raw::ADD => Op::Add { cell, amount },
+        raw::NEED => Op::Need { cell, amount },
+        raw::MOVE => Op::Move { cell, second, amount },
+        _ => unreachable!("a sound site has no operation {code}"),
+    }
+}
+
+/// The one subject that stands for plain queues: what is not used is zero.
+pub fn from_plain(plain: &Site) -> Subject {
+    let mut subject = Subject::empty();
+    for (class, queued) in plain.classes.iter().enumerate() {
+        for (place, entry) in queued.queue.iter().enumerate() {
+            let at = usize::from(entry.slot);
+            subject.site.slots[at] = slot_of(entry);
+            subject.site.queue[class * SLOTS + place] = entry.slot;
+            mark_used(&mut subject.site, at);
+        }
+        subject.site.lens[class] = queued.queue.len() as u8;
+        let cells = class * CELLS..(class + 1) * CELLS;
+        subject.committed[cells.clone()].copy_from_slice(&queued.committed);
+        subject.working[cells].copy_from_slice(&queued.working);
+    }
+    subject.site.confirmations = plain.confirmations;
+    subject.site.commits = plain.commits;
+    subject
+}
+
+/// Notes in the map that a slot is used.
+fn mark_used(site: &mut raw::Site, slot: usize) {
+    let words = [&mut site.low, &mut site.high];
+    let width = u64::BITS as usize;
+    *words[slot / width] |= 1 << (slot % width);
+}
+
+/// The slot of a queued request.
+fn slot_of(entry: &Entry) -> Slot {
+    let mut slot = Slot {
+        id: entry.request.id,
+        class: entry.request.class,
+        count: entry.request.ops.len() as u8,
+        number: entry.number.unwrap_or(0),
+        done: entry.done as u8,
+        mark: entry.declined.into(),
+        ..Slot::default()
+    };
+    for (op, raw) in entry.request.ops.iter().zip(&mut slot.ops) {
+        *raw = raw_op(*op);
+    }
+    slot
+}
+
+/// The operation as a slot has it.
+fn raw_op(op: Op) -> raw::Op {
+    match op {
+        Op::Put { cell, amount } => raw::Op { code: raw::PUT, cell, second: 0, amount },
+        Op::Add { cell, amount } => raw::Op { code: raw::ADD, cell, second: 0, amount },
+        Op::Need { cell, amount } => raw::Op { code: raw::NEED, cell, second: 0, amount },
+        Op::Move { cell, second, amount } => raw::Op { code: raw::MOVE, cell, second, amount },
+    }
+}
+
+/// An answer of the model as the six numbers of the archive.
+pub fn numbers(answer: Answer) -> Numbers {
+    let wide = |number: usize| number as u64;
+    let said: [u64; 5] = match answer {
+        Answer::Queued { id, class, place, slot } => {
+            [raw::QUEUED, id.into(), class.into(), wide(place), slot.into()]
+        }
+        Answer::Stepped { id, done } => [raw::STEPPED, id.into(), wide(done), 0, 0],
+        Answer::Executed { id } => [raw::EXECUTED, id.into(), 0, 0, 0],
+        Answer::Committed { id, number, declined, slot } => {
+            [raw::COMMITTED, id.into(), number.into(), declined.into(), slot.into()]
+        }
+        Answer::Waiting { id, w, put_back } => {
+            [raw::WAITING, id.into(), wide(w), put_back.into(), 0]
+        }
+        Answer::Value(cell) => [raw::VALUE, cell.into(), 0, 0, 0],
+        Answer::ToDo(w) => [raw::TO_DO, wide(w), 0, 0, 0],
+        Answer::Unconfirmed => [raw::UNCONFIRMED, 0, 0, 0, 0],
+        Answer::Refused(number) => [raw::REFUSED, number.into(), 0, 0, 0],
+    };
+    let [what, first, second, third, fourth] = said;
+    [what, first, second, third, fourth, 0]
+}

@@ -1,0 +1,177 @@
+//! The run: traffic by the archive, and at many points of it damaged copies of the site.
+
+use crate::ask;
+use crate::call::{Call, Outcome, State};
+use crate::damage::{self, Damaged};
+use crate::plain::from_plain;
+use crate::rules::{RULES, broken};
+use crate::subject::{Subject, spots};
+use crate::tally::Tally;
+use model::event::{Event, Run as Traffic};
+use model::random::Random;
+use model::stream::{KINDS, Kind, Stream};
+
+/// Events in each stream.
+const EVENTS: u64 = 1_000;
+/// Events from one damaged site to the next.
+const STRIDE: u64 = 40;
+/// Single numbers damaged at each of these points.
+const NUMBERS_A_TIME: usize = 100;
+/// How often each other kind of damage is done at each of these points.
+const TIMES: usize = 4;
+
+/// A run in progress.
+pub struct Run {
+    /// What happened so far.
+    pub tally: Tally,
+    /// Where chance comes from.
+    random: Random,
+    /// A site of earlier traffic, to mix with.
+    earlier: Subject,
+    /// Where the run is, in words.
+    place: String,
+}
+
+/// A difference, in words.
+pub type Difference = String;
+
+impl Run {
+    /// A run that starts from a seed.
+    pub fn new(seed: u64) -> Run {
+        Run {
+            tally: Tally::default(),
+            random: Random::new(seed),
+            earlier: Subject::empty(),
+            place: String::new(),
+        }
+    }
+
+    /// Goes over so many streams, the kinds in turn; the first difference, if any.
+    pub fn go(&mut self, streams: u64, seed: u64) -> Result<(), Difference> {
+        for (turn, &(kind, name)) in (0..streams).zip(KINDS.iter().cycle()) {
+            self.stream(kind, name, seed.wrapping_add(turn))?;
+        }
+        Ok(())
+    }
+
+    /// One stream of traffic, with damage on the way.
+    fn stream(&mut self, kind: Kind, name: &str, seed: u64) -> Result<(), Difference> {
+        let mut traffic = Traffic::fresh();
+        let mut subject = Call::Fresh.made(&Subject::empty()).after;
+        for (place, bytes) in (1..).zip(Stream::new(kind, seed, EVENTS)) {
+            self.place = format!("stream {name}, seed {seed}, event {place}");
+            traffic.take(&bytes);
+            if let Some(call) = Event::decode(&bytes).as_ref().and_then(ask::of_event) {
+                let state = state_of(&subject).0;
+                subject = self.hold(&call, &subject, state, "none")?.after;
+                self.same_as_traffic(&subject, &traffic)?;
+            }
+            if place % STRIDE == 0 {
+                self.damage(&subject)?;
+                self.earlier = subject.clone();
+            }
+        }
+        Ok(())
+    }
+
+    /// The subject must be what the model has after all events so far.
+    fn same_as_traffic(&self, subject: &Subject, traffic: &Traffic) -> Result<(), Difference> {
+        match from_plain(&traffic.site).first_difference(subject) {
+            None => Ok(()),
+            Some(found) => Err(format!("{}: after the traffic {found}", self.place)),
+        }
+    }
+
+    /// Damages copies of a subject in every way.
+    fn damage(&mut self, base: &Subject) -> Result<(), Difference> {
+        self.six(damage::none(base))?;
+        for _ in 0..NUMBERS_A_TIME {
+            let next = self.tally.numbers % spots();
+            let damaged = damage::one_number(&mut self.random, base, next);
+            self.tally.numbers += 1;
+            self.six(damaged)?;
+        }
+        for rule in &RULES {
+            let damaged = damage::aimed(&mut self.random, base, rule);
+            self.six(damaged)?;
+        }
+        for _ in 0..TIMES {
+            self.other_ways(base)?;
+        }
+        Ok(())
+    }
+
+    /// Damages copies of a subject in each way that is not about one number or one rule.
+    fn other_ways(&mut self, base: &Subject) -> Result<(), Difference> {
+        let random = &mut self.random;
+        let mixed = damage::mixed(random, base, &self.earlier);
+        let late = damage::late(random, base);
+        let sound = damage::still_sound(random, base);
+        let cut = damage::wrong_cells(random, damage::none(base));
+        let scattered = damage::chance_field(random, base);
+        let field = damage::chance_field(random, base);
+        let scattered_and_cut = damage::wrong_cells(random, scattered);
+        let chance = damage::chance_bytes(random, base);
+        for damaged in [mixed, late, sound, cut, field, scattered_and_cut, chance] {
+            self.six(damaged)?;
+        }
+        Ok(())
+    }
+
+    /// Makes all six calls on a damaged subject.
+    fn six(&mut self, damaged: Damaged) -> Result<(), Difference> {
+        let Damaged { subject, how } = damaged;
+        let (state, broken) = state_of(&subject);
+        self.tally.tried += 1;
+        self.tally.sound += u64::from(state == State::Sound);
+        self.tally.count_broken(&broken);
+        for call in ask::six(&mut self.random, &subject) {
+            self.hold(&call, &subject, state, &how)?;
+        }
+        Ok(())
+    }
+
+    /// Makes one call and holds it against what it must do; a sound site must stay sound.
+    fn hold(
+        &mut self,
+        call: &Call,
+        before: &Subject,
+        state: State,
+        how: &str,
+    ) -> Result<Outcome, Difference> {
+        let (due, made) = (call.due(before, state), call.made(before));
+        if let Some(found) = difference(state, &due, &made) {
+            let (next, place) = (self.tally.made() + 1, &self.place);
+            let site = format!("site: {state:?}, broken: {:?}", words(&state_of(before).1));
+            let call = format!("call: {call:?}");
+            return Err(format!("call {next}, {place}\ndamage: {how}\n{site}\n{call}\n{found}"));
+        }
+        self.tally.count(call.kind(), state, &made);
+        Ok(made)
+    }
+}
+
+/// What a call must find in a subject, and the rules that are broken.
+fn state_of(subject: &Subject) -> (State, Vec<usize>) {
+    if !subject.has_right_cells() {
+        return (State::WrongCells, Vec::new());
+    }
+    let broken = broken(subject);
+    (if broken.is_empty() { State::Sound } else { State::Unsound }, broken)
+}
+
+/// In what a call did something else than was due, in words.
+fn difference(state: State, due: &Outcome, made: &Outcome) -> Option<Difference> {
+    if made.answer != due.answer {
+        return Some(format!("answered {:?} instead of {:?}", made.answer, due.answer));
+    }
+    due.after.first_difference(&made.after).or_else(|| {
+        let left = if state == State::Sound { broken(&made.after) } else { Vec::new() };
+        (!left.is_empty()).then(|| format!("a sound site was left with broken: {:?}", words(&left)))
+    })
+}
+
+/// The words of rules, by their places in the table.
+fn words(rules: &[usize]) -> Vec<&'static str> {
+    rules.iter().map(|rule| RULES[*rule].words).collect()
+}

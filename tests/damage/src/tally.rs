@@ -1,0 +1,115 @@
+//! Counts of the calls made, of what they answered, and of the rules broken.
+
+use crate::call::{NAMES, Outcome, State};
+use crate::rules::RULES;
+use crate::subject::spots;
+use shpendorak::Refusal;
+use shpendorak::raw::{REFUSED, STARTED};
+use std::io::{self, Write};
+
+/// The answers other than a refusal, in the order of their kinds.
+const ANSWERS: [&str; STARTED as usize] = [
+    "queued",
+    "stepped",
+    "executed",
+    "committed",
+    "waiting",
+    "value",
+    "to-do",
+    "unconfirmed",
+    "started",
+];
+/// The refusals of a call are 1 to 12.
+const REFUSALS: usize = Refusal::NoSuchCell as usize;
+
+/// What happened so far.
+#[derive(Clone, Debug, Default)]
+pub struct Tally {
+    /// How many calls of each kind were made.
+    calls: [u64; NAMES.len()],
+    /// How many calls were made on wrong cells, unsound and sound sites.
+    states: [u64; 3],
+    /// How often each answer was given.
+    answers: [u64; ANSWERS.len()],
+    /// How often each refusal was given.
+    refusals: [u64; REFUSALS],
+    /// How many single numbers were damaged, one after another.
+    pub numbers: usize,
+    /// How many subjects were tried, each damaged in some way or left as it was.
+    pub tried: u64,
+    /// How many of them were sound.
+    pub sound: u64,
+    /// In how many subjects each rule was broken.
+    broken: [u64; RULES.len()],
+    /// In how many it was the only one.
+    alone: [u64; RULES.len()],
+}
+
+impl Tally {
+    /// Counts a call, what it found and what it answered.
+    pub fn count(&mut self, kind: usize, state: State, outcome: &Outcome) {
+        self.calls[kind] += 1;
+        self.states[state as usize] += 1;
+        let [what, number, ..] = outcome.answer.map(|number| number as usize);
+        if what == REFUSED as usize {
+            self.refusals[number - 1] += 1;
+        } else {
+            self.answers[what - 1] += 1;
+        }
+    }
+
+    /// Counts the rules that a subject breaks.
+    pub fn count_broken(&mut self, broken: &[usize]) {
+        for rule in broken {
+            self.broken[*rule] += 1;
+        }
+        if let [rule] = broken {
+            self.alone[*rule] += 1;
+        }
+    }
+
+    /// How many calls were made.
+    pub fn made(&self) -> u64 {
+        self.calls.iter().sum()
+    }
+
+    /// What should have occurred and never did.
+    pub fn missing(&self) -> Vec<String> {
+        let rules = RULES.iter().zip(self.alone).filter(|(_, count)| *count == 0);
+        let answers = ANSWERS.iter().zip(self.answers).filter(|(_, count)| *count == 0);
+        let refusals = (1..).zip(self.refusals).filter(|(_, count)| *count == 0);
+        let rules = rules.map(|(rule, _)| format!("broken alone: {}", rule.words));
+        let answers = answers.map(|(word, _)| word.to_string());
+        let refusals = refusals.map(|(number, _): (u32, u64)| format!("refused {number}"));
+        let numbers = (self.numbers < spots()).then(|| "each number damaged".to_string());
+        rules.chain(answers).chain(refusals).chain(numbers).collect()
+    }
+
+    /// Writes the counts.
+    pub fn write_to(&self, out: &mut impl Write) -> io::Result<()> {
+        let [wrong, unsound, sound] = self.states;
+        writeln!(out, "{} calls, each as the rules of the build have it", self.made())?;
+        writeln!(out, "on sound sites {sound}, unsound {unsound}, wrong cells {wrong}")?;
+        writeln!(out, "{} sites tried beside the traffic, {} sound", self.tried, self.sound)?;
+        let times = self.numbers / spots();
+        writeln!(out, "each of the {} numbers of a site damaged {times} times or more", spots())?;
+        line(out, "calls", NAMES.iter().zip(self.calls))?;
+        line(out, "answers", ANSWERS.iter().zip(self.answers))?;
+        line(out, "refused", (1..=REFUSALS).zip(self.refusals))?;
+        writeln!(out, "{:<54}{:>8}{:>8}", "sound rule", "broken", "alone")?;
+        for ((rule, broken), alone) in RULES.iter().zip(self.broken).zip(self.alone) {
+            writeln!(out, "{:<54}{broken:>8}{alone:>8}", rule.words)?;
+        }
+        Ok(())
+    }
+}
+
+/// Writes names with their counts in one line.
+fn line<N: std::fmt::Display>(
+    out: &mut impl Write,
+    title: &str,
+    counts: impl Iterator<Item = (N, u64)>,
+) -> io::Result<()> {
+    let counts: Vec<String> = counts.map(|(name, count)| format!("{name} {count}")).collect();
+    writeln!(out, "{title}: {}", counts.join(", "))
+}

@@ -1,0 +1,31 @@
+/* The layout that the archive was built with: size and place of every field, at compile time. */
+#include "shpendorak.h"
+
+/* A field starts at a byte of its struct and has so many bytes. */
+#define STANDS(whole, field, at, bytes)                                            \
+    _Static_assert(offsetof(whole, field) == (at), #whole " " #field " starts");   \
+    _Static_assert(sizeof(((whole *)0)->field) == (bytes), #whole " " #field " is as large")
+
+STANDS(shpendorak_op, code, 0, 1);
+STANDS(shpendorak_op, cell, 1, 1);
+STANDS(shpendorak_op, second, 2, 1);
+STANDS(shpendorak_op, amount, 4, 4);
+_Static_assert(sizeof(shpendorak_op) == 8, "an operation");
+
+STANDS(shpendorak_slot, id, 0, 4);
+STANDS(shpendorak_slot, class_number, 4, 1);
+STANDS(shpendorak_slot, count, 5, 1);
+STANDS(shpendorak_slot, ops, 8, 56);
+STANDS(shpendorak_slot, number, 64, 4);
+STANDS(shpendorak_slot, done, 68, 1);
+STANDS(shpendorak_slot, mark, 69, 1);
+_Static_assert(sizeof(shpendorak_slot) == 72, "a slot");
+
+STANDS(shpendorak_site, slots, 0, 9216);
+STANDS(shpendorak_site, queue, 9216, 2048);
+STANDS(shpendorak_site, lens, 11264, 16);
+STANDS(shpendorak_site, low, 11280, 8);
+STANDS(shpendorak_site, high, 11288, 8);
+STANDS(shpendorak_site, confirmations, 11296, 4);
+STANDS(shpendorak_site, commits, 11300, 4);
+_Static_assert(sizeof(shpendorak_site) == 11304, "a site");

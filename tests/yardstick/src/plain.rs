@@ -1,0 +1,231 @@
+//! The site written by hand on `&mut Site`: the same calls, and the same check before each.
+
+pub mod cells;
+pub mod record;
+pub mod sound;
+
+use crate::answer::{Answer, NOT_SOUND, Numbers, WRONG_CELLS};
+use crate::call::{Call, Held, RUN, Takes};
+use crate::raw::*;
+use cells::{carry, of_class};
+use model::answer::*;
+use model::record::CELLS;
+use sound::{queue_of, sound};
+
+/// The mark of a request that has declined.
+const DECLINED: u8 = 1;
+/// The slot that is free: all zero.
+pub const FREE: Slot = Slot {
+    id: 0,
+    class: 0,
+    count: 0,
+    ops: [Op { code: 0, cell: 0, second: 0, amount: 0 }; MOST_OPS],
+    number: 0,
+    done: 0,
+    mark: 0,
+};
+
+/// A site whose calls are written by hand.
+#[derive(Clone, Debug)]
+pub struct Plain(pub Held);
+
+impl Takes for Plain {
+    /// A fresh site with its cells cleared.
+    fn fresh() -> Plain {
+        let site = Site {
+            slots: [FREE; SLOTS],
+            queue: [0; PLACES],
+            lens: [0; CLASSES],
+            low: 0,
+            high: 0,
+            confirmations: 0,
+            commits: 0,
+        };
+        Plain(Held { site, committed: vec![0; RUN], working: vec![0; RUN] })
+    }
+
+    /// Makes a call and answers its numbers.
+    fn take(&mut self, call: &Call) -> Numbers {
+        let Held { site, committed, working } = &mut self.0;
+        let answer = match *call {
+            Call::Offer(ref bytes) => offer(site, committed, working, bytes),
+            Call::Confirm { id, number } => confirm(site, committed, working, id, number),
+            Call::Work { class } => work(site, committed, working, class),
+            Call::Read { class, cell } => read(site, committed, working, class, cell),
+            Call::Look { id } => look(site, committed, working, id),
+        };
+        answer.unwrap_or_else(Answer::Refused).numbers()
+    }
+
+    /// The site and cells as they are now.
+    fn held(&mut self) -> &mut Held {
+        &mut self.0
+    }
+}
+
+/// What a call answers, or the number of its refusal.
+type Answered = Result<Answer, u8>;
+
+/// The refusal that every call begins with, if there is one.
+fn door(site: &Site, committed: &[u32], working: &[u32]) -> Result<(), u8> {
+    if committed.len() != RUN || working.len() != RUN {
+        return Err(WRONG_CELLS);
+    }
+    if sound(site, committed, working) { Ok(()) } else { Err(NOT_SOUND) }
+}
+
+/// Queues the request of a record.
+pub fn offer(site: &mut Site, committed: &[u32], working: &[u32], bytes: &[u8]) -> Answered {
+    door(site, committed, working)?;
+    let taken = record::parse(bytes).ok_or(BAD_RECORD)?;
+    let (id, class) = (taken.id, taken.class);
+    if slot_of(site, id.into()).is_some() {
+        return Err(ID_QUEUED);
+    }
+    let slot = lowest_free(site).ok_or(SITE_FULL)?;
+    site.slots[usize::from(slot)] = taken;
+    set_used(site, slot, true);
+    let len = &mut site.lens[usize::from(class)];
+    site.queue[SLOTS * usize::from(class) + usize::from(*len)] = slot;
+    *len += 1;
+    Ok(Answer::Queued { id, class, place: *len, slot })
+}
+
+/// Confirms a queued id under the next number.
+pub fn confirm(
+    site: &mut Site,
+    committed: &mut [u32],
+    working: &mut [u32],
+    id: u64,
+    number: u64,
+) -> Answered {
+    door(site, committed, working)?;
+    if site.confirmations == u32::MAX {
+        return Err(NUMBERS_USED_UP);
+    }
+    let next = site.confirmations + 1;
+    if number != next.into() {
+        return Err(WRONG_NUMBER);
+    }
+    let at = slot_of(site, id).ok_or(ID_NOT_QUEUED)?;
+    let Slot { id, class, count, number, done, .. } = site.slots[at];
+    if number != 0 {
+        return Err(CONFIRMED_ALREADY);
+    }
+    let class = usize::from(class);
+    let head = usize::from(site.queue[SLOTS * class]);
+    site.confirmations = next;
+    site.slots[at].number = next;
+    if head == at && done == count {
+        return Ok(commit(site, committed, working, class));
+    }
+    let mut put_back = 0;
+    if head != at && site.slots[head].number == 0 {
+        put_back = site.slots[head].id;
+        of_class(working, class).copy_from_slice(&committed[CELLS * class..][..CELLS]);
+        site.slots[head].done = 0;
+        site.slots[head].mark = 0;
+    }
+    move_forward(site, class, at);
+    Ok(Answer::Waiting { id, w: to_do(site, class, at), put_back })
+}
+
+/// The head of a class does its next operation.
+pub fn work(site: &mut Site, committed: &mut [u32], working: &mut [u32], class: u64) -> Answered {
+    door(site, committed, working)?;
+    let class = usize::try_from(class).ok().filter(|&c| c < CLASSES).ok_or(NO_SUCH_CLASS)?;
+    let at = usize::from(*queue_of(site, class).first().ok_or(NOTHING_TO_DO)?);
+    let head = &mut site.slots[at];
+    if head.done == head.count {
+        return Err(NOTHING_TO_DO);
+    }
+    let cells = of_class(working, class);
+    if head.mark == 0 && !carry(&head.ops[usize::from(head.done)], cells) {
+        cells.copy_from_slice(&committed[CELLS * class..][..CELLS]);
+        head.mark = DECLINED;
+    }
+    head.done += 1;
+    if head.done < head.count {
+        return Ok(Answer::Stepped { id: head.id, done: head.done });
+    }
+    if head.number == 0 {
+        return Ok(Answer::Executed { id: head.id });
+    }
+    Ok(commit(site, committed, working, class))
+}
+
+/// The committed cell of a class.
+pub fn read(site: &Site, committed: &[u32], working: &[u32], class: u64, cell: u64) -> Answered {
+    door(site, committed, working)?;
+    let class = usize::try_from(class).ok().filter(|&c| c < CLASSES).ok_or(NO_SUCH_CLASS)?;
+    let cell = usize::try_from(cell).ok().filter(|&k| k < CELLS).ok_or(NO_SUCH_CELL)?;
+    Ok(Answer::Value(committed[CELLS * class + cell]))
+}
+
+/// W of a confirmed request, or that it is unconfirmed.
+pub fn look(site: &Site, committed: &[u32], working: &[u32], id: u64) -> Answered {
+    door(site, committed, working)?;
+    let at = slot_of(site, id).ok_or(ID_NOT_QUEUED)?;
+    let slot = &site.slots[at];
+    if slot.number == 0 {
+        return Ok(Answer::Unconfirmed);
+    }
+    Ok(Answer::ToDo(to_do(site, slot.class.into(), at)))
+}
+
+/// The slot of a queued id.
+fn slot_of(site: &Site, id: u64) -> Option<usize> {
+    site.slots.iter().position(|slot| slot.id != 0 && u64::from(slot.id) == id)
+}
+
+/// The lowest-numbered free slot.
+fn lowest_free(site: &Site) -> Option<u8> {
+    let free = !(u128::from(site.high) << u64::BITS | u128::from(site.low));
+    (free != 0).then(|| free.trailing_zeros() as u8)
+}
+
+/// Writes in the map whether a slot is used.
+fn set_used(site: &mut Site, slot: u8, used: bool) {
+    let word = if u32::from(slot) < u64::BITS { &mut site.low } else { &mut site.high };
+    let bit = 1 << (u32::from(slot) % u64::BITS);
+    *word = if used { *word | bit } else { *word & !bit };
+}
+
+/// The operations still to do by a slot and by all before it in the queue of its class.
+fn to_do(site: &Site, class: usize, at: usize) -> u32 {
+    let mut w = 0;
+    for &place in queue_of(site, class) {
+        let slot = &site.slots[usize::from(place)];
+        w += u32::from(slot.count - slot.done);
+        if usize::from(place) == at {
+            break;
+        }
+    }
+    w
+}
+
+/// Moves a slot that was just confirmed to directly before the first waiting one of its class.
+fn move_forward(site: &mut Site, class: usize, at: usize) {
+    let queue = &mut site.queue[SLOTS * class..][..usize::from(site.lens[class])];
+    let waits =
+        |&place: &u8| usize::from(place) == at || site.slots[usize::from(place)].number == 0;
+    let to = queue.iter().position(waits);
+    let from = queue.iter().position(|&place| usize::from(place) == at);
+    if let (Some(to), Some(from)) = (to, from) {
+        queue[to..=from].rotate_right(1);
+    }
+}
+
+/// The head of a class commits: its cells, its place, its slot and the count.
+fn commit(site: &mut Site, committed: &mut [u32], working: &[u32], class: usize) -> Answer {
+    of_class(committed, class).copy_from_slice(&working[CELLS * class..][..CELLS]);
+    let queue = &mut site.queue[SLOTS * class..][..usize::from(site.lens[class])];
+    let slot = queue[0];
+    queue[0] = 0;
+    queue.rotate_left(1);
+    site.lens[class] -= 1;
+    let Slot { id, number, mark, .. } = std::mem::replace(&mut site.slots[usize::from(slot)], FREE);
+    set_used(site, slot, false);
+    site.commits += 1;
+    Answer::Committed { id, number, mark, slot }
+}

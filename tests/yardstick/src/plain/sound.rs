@@ -1,0 +1,138 @@
+//! The check that every call begins with: each rule by the same walk as in the archive, on references.
+
+use crate::plain::cells::carry;
+use crate::plain::{DECLINED, FREE};
+use crate::raw::*;
+use model::record::{CELLS, MOVE, PUT};
+
+/// Whether the site is sound with its cells.
+pub fn sound(site: &Site, committed: &[u32], working: &[u32]) -> bool {
+    site.slots.iter().all(slot_ok)
+        && site.lens.iter().all(|&len| usize::from(len) <= SLOTS)
+        && tails_zero(site)
+        && map_agrees(site)
+        && each_once(site)
+        && pairs_differ(&site.slots)
+        && in_order(site)
+        && counts_agree(site)
+        && cells_ok(site, committed, working)
+}
+
+/// The queue of a class, head first.
+pub fn queue_of(site: &Site, class: usize) -> &[u8] {
+    &site.queue[SLOTS * class..][..usize::from(site.lens[class])]
+}
+
+/// Whether a slot is free and all zero, or holds a valid record.
+fn slot_ok(slot: &Slot) -> bool {
+    if slot.id == 0 { *slot == FREE } else { holds(slot) }
+}
+
+/// Whether a slot holds a valid record.
+pub fn holds(slot: &Slot) -> bool {
+    let count = usize::from(slot.count);
+    if slot.id == 0 || usize::from(slot.class) >= CLASSES || !(1..=MOST_OPS).contains(&count) {
+        return false;
+    }
+    let (ops, rest) = slot.ops.split_at(count);
+    ops.iter().all(op_ok) && rest.iter().all(|op| *op == Op::default())
+}
+
+/// Whether an operation keeps the rules of a record.
+fn op_ok(op: &Op) -> bool {
+    let (cell, second) = (usize::from(op.cell), usize::from(op.second));
+    match op.code {
+        MOVE => cell < CELLS && second < CELLS && cell != second,
+        PUT..MOVE => cell < CELLS && second == 0,
+        _ => false,
+    }
+}
+
+/// Whether the queue places past the end are zero.
+fn tails_zero(site: &Site) -> bool {
+    let mut classes = site.queue.chunks_exact(SLOTS).zip(&site.lens);
+    classes.all(|(places, &len)| places[usize::from(len)..].iter().all(|&place| place == 0))
+}
+
+/// Whether the map of used slots agrees.
+fn map_agrees(site: &Site) -> bool {
+    let agrees = |(word, slots): (u64, &[Slot])| {
+        slots.iter().enumerate().all(|(bit, slot)| (word >> bit & 1 == 1) == (slot.id != 0))
+    };
+    [site.low, site.high].into_iter().zip(site.slots.chunks_exact(u64::BITS as usize)).all(agrees)
+}
+
+/// Whether every used slot stands exactly once, in the queue of its class, and no free slot stands in one.
+fn each_once(site: &Site) -> bool {
+    let mut seen = 0u128;
+    for class in 0..CLASSES {
+        for &place in queue_of(site, class) {
+            let Some(slot) = site.slots.get(usize::from(place)) else {
+                return false;
+            };
+            let bit = 1 << place;
+            if slot.id == 0 || usize::from(slot.class) != class || seen & bit != 0 {
+                return false;
+            }
+            seen |= bit;
+        }
+    }
+    seen == u128::from(site.high) << u64::BITS | u128::from(site.low)
+}
+
+/// Whether ids differ and numbers differ, over the pairs of slots.
+fn pairs_differ(slots: &[Slot; SLOTS]) -> bool {
+    slots.iter().enumerate().all(|(at, a)| {
+        slots[at + 1..]
+            .iter()
+            .all(|b| (a.id == 0 || a.id != b.id) && (a.number == 0 || a.number != b.number))
+    })
+}
+
+/// Whether in each queue the confirmed stand before the waiting, with rising numbers, and only a head has anything done.
+fn in_order(site: &Site) -> bool {
+    (0..CLASSES).all(|class| {
+        let slots = queue_of(site, class).iter().map(|&place| &site.slots[usize::from(place)]);
+        slots.clone().all(|slot| slot.number <= site.confirmations)
+            && slots.clone().zip(slots.skip(1)).all(|(before, slot)| follows(before, slot))
+    })
+}
+
+/// Whether a slot may stand directly behind another.
+fn follows(before: &Slot, slot: &Slot) -> bool {
+    let rises = slot.number == 0 || (before.number != 0 && before.number < slot.number);
+    rises && slot.done == 0 && slot.mark == 0
+}
+
+/// Whether the confirmations are the commits and the confirmed requests queued.
+fn counts_agree(site: &Site) -> bool {
+    let confirmed = site.slots.iter().filter(|slot| slot.number != 0).count();
+    site.confirmations.checked_sub(site.commits).is_some_and(|open| open as usize == confirmed)
+}
+
+/// Whether the working cells are the committed ones with the head's done operations carried out on them.
+fn cells_ok(site: &Site, committed: &[u32], working: &[u32]) -> bool {
+    let mut runs = committed.chunks_exact(CELLS).zip(working.chunks_exact(CELLS));
+    let mut classes = 0..CLASSES;
+    runs.all(|(committed, working)| {
+        let head = classes.next().and_then(|class| queue_of(site, class).first());
+        match head {
+            Some(&place) => head_ok(&site.slots[usize::from(place)], committed, working),
+            None => working == committed,
+        }
+    })
+}
+
+/// Whether a slot may be the head of its class, with the class's cells.
+fn head_ok(head: &Slot, committed: &[u32], working: &[u32]) -> bool {
+    if head.done > head.count || (head.number != 0 && head.done == head.count) {
+        return false;
+    }
+    let mut cells = [0; CELLS];
+    cells.copy_from_slice(committed);
+    if head.ops[..usize::from(head.done)].iter().all(|op| carry(op, &mut cells)) {
+        head.mark == 0 && working == cells
+    } else {
+        head.mark == DECLINED && working == committed
+    }
+}
