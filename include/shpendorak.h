@@ -28,6 +28,7 @@ extern "C" {
 #define SHPENDORAK_RUN_LENGTH 1024  /* cells in a run: 16 times 64 */
 #define SHPENDORAK_SLOTS 128        /* slots are 0 to 127, shared by all classes */
 #define SHPENDORAK_PLACES 2048      /* queue places: 16 times 128 */
+#define SHPENDORAK_KEPT 256         /* ids of so many of the last confirmations are kept */
 #define SHPENDORAK_MOST_OPS 7       /* a request has 1 to 7 operations */
 #define SHPENDORAK_RECORD_BYTES 64  /* bytes of a request record */
 #define SHPENDORAK_NUMBERS 6        /* numbers of an answer */
@@ -57,7 +58,7 @@ enum shpendorak_answer {
     SHPENDORAK_STARTED = 9      /* no numbers */
 };
 
-/* Why a call did not act. Where several apply, the smallest is given. */
+/* Why a call did not act. Where several apply, the smallest is given; but 14 comes between 4 and 5. */
 enum shpendorak_refusal {
     SHPENDORAK_WRONG_CELLS = 1,       /* either run of cells is not 1,024 long: all calls */
     SHPENDORAK_UNSOUND = 2,           /* the site is not sound: all calls but fresh */
@@ -70,7 +71,8 @@ enum shpendorak_refusal {
     SHPENDORAK_CONFIRMED_ALREADY = 9, /* the request is confirmed already: confirm */
     SHPENDORAK_NO_SUCH_CLASS = 10,    /* the class is above 15: work, read */
     SHPENDORAK_NOTHING_TO_DO = 11,    /* the queue is empty, or its head is executed: work */
-    SHPENDORAK_NO_SUCH_CELL = 12      /* the cell is above 63: read */
+    SHPENDORAK_NO_SUCH_CELL = 12,     /* the cell is above 63: read */
+    SHPENDORAK_ID_KEPT = 14           /* the id is among the last 256 confirmed: offer */
 };
 
 /* One operation of a request. */
@@ -101,6 +103,7 @@ typedef struct shpendorak_site {
     uint64_t high;                     /* and of slots 64 to 127 */
     uint32_t confirmations;            /* how many confirmations were taken */
     uint32_t commits;                  /* how many requests committed */
+    uint32_t kept[SHPENDORAK_KEPT];    /* ids last confirmed: that of number n at n mod 256 */
 } shpendorak_site;
 
 /* Fresh: clears all 2,048 cells and hands back a site with nothing queued and both counts 0.
@@ -113,7 +116,7 @@ shpendorak_site shpendorak_fresh(uint32_t *committed, size_t committed_len,
 /* Offer, when a record came off the wire: the lowest-numbered free slot takes it, and the request
  * joins the end of its class queue, waiting.
  * Answers QUEUED id, class, place, slot.
- * Refuses WRONG_CELLS, UNSOUND, BAD_RECORD, ID_QUEUED, SITE_FULL. */
+ * Refuses WRONG_CELLS, UNSOUND, BAD_RECORD, ID_QUEUED, ID_KEPT, SITE_FULL, in this order. */
 shpendorak_site shpendorak_offer(shpendorak_site site,
                                  const uint32_t *committed, size_t committed_len,
                                  const uint32_t *working, size_t working_len,

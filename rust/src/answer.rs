@@ -46,10 +46,11 @@ pub enum Refusal {
     NoSuchClass = 10,
     NothingToDo = 11,
     NoSuchCell = 12,
+    IdKept = 14,
 }
 
 /// Every refusal and what it means.
-const MEANINGS: [(Refusal, &str); 12] = [
+const MEANINGS: [(Refusal, &str); 13] = [
     (Refusal::WrongCells, "a run of cells is not 1,024 long"),
     (Refusal::Unsound, "the site is not sound"),
     (Refusal::BadRecord, "the record is not 64 bytes or breaks a rule"),
@@ -62,6 +63,7 @@ const MEANINGS: [(Refusal, &str); 12] = [
     (Refusal::NoSuchClass, "the class is above 15"),
     (Refusal::NothingToDo, "the queue is empty, or its head is executed"),
     (Refusal::NoSuchCell, "the cell is above 63"),
+    (Refusal::IdKept, "the id is among the last 256 confirmed"),
 ];
 
 impl Refusal {

@@ -10,6 +10,8 @@ pub const RUN_LENGTH: usize = CLASSES * CELLS;
 pub const SLOTS: usize = 128;
 /// The queue places of all classes; each class has as many as there are slots.
 pub const PLACES: usize = CLASSES * SLOTS;
+/// A site keeps the ids of as many of its last confirmations.
+pub const KEPT: usize = 256;
 /// The most operations a request may have.
 pub const MOST_OPS: usize = 7;
 /// Bytes of a request record.
@@ -102,6 +104,8 @@ pub struct Site {
     pub confirmations: u32,
     /// The count of commits.
     pub commits: u32,
+    /// The ids of the last 256 confirmations: that of number n stands at n mod 256.
+    pub kept: [u32; KEPT],
 }
 
 #[link(name = "host", kind = "static")]

@@ -68,6 +68,7 @@ fn numbers_and_words_are_those_of_document_01() {
             "refused 10: the class is above 15",
             "refused 11: the queue is empty, or its head is executed",
             "refused 12: the cell is above 63",
+            "refused 14: the id is among the last 256 confirmed",
         ]
     );
 }
@@ -92,6 +93,7 @@ fn each_refusal_comes_from_a_call() {
     let committed = Answer::Committed { id: 7, number: 1, mark: 0, slot: 0 };
     assert_eq!(hosted.work(3), Ok(committed));
     assert_eq!(hosted.read(3, 0), Ok(Answer::Value(1)));
+    assert_eq!(hosted.offer(7, 4), Err(Refusal::IdKept));
 }
 
 #[test]
@@ -102,6 +104,7 @@ fn a_full_site_and_the_last_number_refuse() {
     }
     assert_eq!(hosted.offer(129, 0), Err(Refusal::SiteFull));
     (hosted.site.confirmations, hosted.site.commits) = (u32::MAX, u32::MAX);
+    hosted.site.kept = std::array::from_fn(|place| 1_000 + place as u32);
     assert_eq!(hosted.confirm(1, 1 << 32), Err(Refusal::NumbersUsedUp));
 }
 

@@ -28,4 +28,5 @@ STANDS(shpendorak_site, low, 11280, 8);
 STANDS(shpendorak_site, high, 11288, 8);
 STANDS(shpendorak_site, confirmations, 11296, 4);
 STANDS(shpendorak_site, commits, 11300, 4);
-_Static_assert(sizeof(shpendorak_site) == 11304, "a site");
+STANDS(shpendorak_site, kept, 11304, 1024);
+_Static_assert(sizeof(shpendorak_site) == 12328, "a site");

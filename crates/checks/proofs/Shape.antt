@@ -4,7 +4,7 @@ use Prim.Native.Nat.{ℕ, zero, suc, _<_}
 use native.Mathlib.Omega.{arith}
 use mathlib.Core.Path.{_≡_}
 use mathlib.Core.List.{List, [], _∷_}
-use lib.ListN.{length}
+use lib.ListN.{length, length-replicate}
 use mir.Syntax.{w8}
 use mir.Val.{Val}
 use denote.Laws.{Is}
@@ -12,7 +12,7 @@ use denote.Array.{Array, each}
 use denote.Plain.{UInt}
 use denote.Shadow.{shadow}
 use denote.Struct.Declared as Declared
-use Rattle.plain.specs.Sizes.{classCount, slotCount, mostOps, word}
+use Rattle.plain.specs.Sizes.{classCount, slotCount, mostOps, word, keptCount}
 use Rattle.slots.specs.declared.Slot.{Slot}
 use Rattle.slots.specs.Meaning.{slotAt}
 use Rattle.slots.proofs.Slot as L
@@ -41,4 +41,5 @@ shaped slots queue lens top g = record {
   lens = g .1 .1 .0 .1 .0 .1;
   low = omega arith;
   high = omega arith;
+  kept = length-replicate {A = ℕ} keptCount 0;
 }

@@ -18,7 +18,8 @@ use Rattle.plain.proofs.Sums.{sum-le, sum-const, sum-term}
 use Rattle.plain.proofs.Queues.{asked-length}
 use Rattle.plain.proofs.Confirming.{Confirms, at-once, later}
 use Rattle.plain.proofs.Sites.{slots-queued, confirm-accepted}
-use Rattle.plain.proofs.Kept.{confirm-both, call-sound}
+use Rattle.plain.proofs.Accepted.{confirm-both}
+use Rattle.plain.proofs.Kept.{call-sound}
 
 pub few-queued : (s : Site) → SoundSite s → numberQueued s ≤ slotCount
 few-queued s w =

@@ -6,7 +6,7 @@ use lib.ListN.{length, drop}
 use Rattle.plain.specs.Ops.{Op, put, add, need, move, carry, opOk, valid}
 use Rattle.plain.specs.Record.{requestIn, isRecord, request}
 use Rattle.plain.specs.Steps.{Answer, queued, stepped, executed, committed, waiting, value, offerStep, workStep, confirmStep}
-use Rattle.plain.specs.Site.{Call, work, confirm, read, fresh, call, act, refusal, classOf, isFree, freeSlot, numberQueued}
+use Rattle.plain.specs.Site.{Call, work, confirm, read, fresh, call, act, refusal, classOf, isFree, freeSlot, numberQueued, isKept}
 use Rattle.plain.specs.Site.{sum, standing}
 use Rattle.plain.proofs.Written.{fourBytes, opBytes, opsBytes, recordOf, offerOf, answers}
 
@@ -71,5 +71,5 @@ table =
 
 -- each case's last answers are those of the table
 pub cases : map (λ (k : Case). last (length (k .end)) (answers fresh (k .calls))) table ≡ map (λ (k : Case). k .end) table
-unfolding table works run req last top fourBytes opBytes opsBytes recordOf offerOf answers fresh call act refusal classOf isFree freeSlot numberQueued sum standing offerStep workStep confirmStep requestIn isRecord request valid opOk carry
+unfolding table works run req last top fourBytes opBytes opsBytes recordOf offerOf answers fresh call act refusal classOf isFree freeSlot numberQueued isKept sum standing offerStep workStep confirmStep requestIn isRecord request valid opOk carry
 cases = refl

@@ -104,9 +104,9 @@ confirm-sized i n k h = go (k .queue)
 sized-of : (s : Site) → ((c : ℕ) → SizedClass (s .class c)) → SizedSite s
 sized-of s h = record { committed = λ c. h c .0; working = λ c. h c .1 }
 
-one-sized : (s : Site) (c more : ℕ) (d : Did) → SizedSite s → SizedClass (d .class) → SizedSite (inClass s c more d .site)
-one-sized s c more d z h =
-    sized-of (inClass s c more d .site) (λ e. by-test (eqb e c) (λ t. rw t h) (λ f. rw f (z .committed e, z .working e)))
+one-sized : (s : Site) (c : ℕ) (new : Option ℕ) (d : Did) → SizedSite s → SizedClass (d .class) → SizedSite (inClass s c new d .site)
+one-sized s c new d z h =
+    sized-of (inClass s c new d .site) (λ e. by-test (eqb e c) (λ t. rw t h) (λ f. rw f (z .committed e, z .working e)))
 
 pub call-sized : (s : Site) (k : Call) → SoundSite s → SizedSite s → SizedSite (call s k .site)
 unfolding call act offerStep
@@ -116,11 +116,11 @@ call-sized s k w z = by-test (accepts s k) (λ t. rw t (go k t)) (λ f. rw f z)
     at c = (z .committed c, z .working c)
 
     go : (k : Call) → accepts s k ≡ true → SizedSite (act s k .site)
-    go (offer b) a = one-sized s (requestIn b .class) 0 (offerStep (requestIn b) _ (s .class (requestIn b .class))) z (at (requestIn b .class))
+    go (offer b) a = one-sized s (requestIn b .class) none (offerStep (requestIn b) _ (s .class (requestIn b .class))) z (at (requestIn b .class))
     go (work c) a =
-        one-sized s c 0 (workStep (s .class c)) z (work-sized c (s .class c) (w .each c (work-accepted s c a .0) .belong) (at c))
+        one-sized s c none (workStep (s .class c)) z (work-sized c (s .class c) (w .each c (work-accepted s c a .0) .belong) (at c))
     go (confirm i n) a =
-        one-sized s (classOf s i) 1 (confirmStep i n (s .class (classOf s i))) z (confirm-sized i n (s .class (classOf s i)) (at (classOf s i)))
+        one-sized s (classOf s i) (some i) (confirmStep i n (s .class (classOf s i))) z (confirm-sized i n (s .class (classOf s i)) (at (classOf s i)))
     go (read c k) a = z
     go (look i) a = z
 

@@ -17,7 +17,8 @@ use Rattle.plain.specs.Demands.{Commits, wOf, Waits, Demand3}
 use Rattle.plain.proofs.Queues.{first-any}
 use Rattle.plain.proofs.Confirming.{Confirms, at-once, later}
 use Rattle.plain.proofs.Sites.{class-is, Confirmable, confirm-accepted}
-use Rattle.plain.proofs.Kept.{id-lasts, confirm-both, call-sound}
+use Rattle.plain.proofs.Accepted.{id-lasts, confirm-both}
+use Rattle.plain.proofs.Kept.{call-sound}
 use Rattle.plain.proofs.Due.{Due, Ends, Others, part-first, not-there, due-positive}
 use Rattle.plain.proofs.Turn.{Turn, turn, from-sound}
 
@@ -104,12 +105,12 @@ demand-3 s w i n a = rw a (go (start c (s .confirmations) i n (s .class c) x (w 
     b = confirm-both s w i n a
 
     s′ : Site
-    s′ = inClass s c 1 x .site
+    s′ = inClass s c (some i) x .site
 
     w′ : SoundSite s′
     w′ = rw a at (call-sound s (confirm i n) w)
 
-    go : Started i n x → Demand3 c i n (inClass s c 1 x)
+    go : Started i n x → Demand3 c i n (inClass s c (some i) x)
     go (inl y) = record { at-once = λ z. y; later = λ z. absurd (omega (arith, ap wOf (y .says))) }
     go (inr y) = record {
       at-once = λ z. absurd (omega (arith, ap wOf (y .2), due-positive (idIs i) n c n (x .class) (y .0) (b .0) (y .3)));

@@ -4,7 +4,7 @@ use native.Mathlib.Omega.{arith}
 use mathlib.Core.Path.{_≡_, refl, sym, ap, _∙_, subst}
 use mathlib.Core.Logic.{_⊎_, inl, inr}
 use mathlib.Core.Bool.{Bool, true, false, and-false}
-use mathlib.Core.Option.{none, some}
+use mathlib.Core.Option.{Option, none, some}
 use mathlib.Core.List.{List, [], _∷_}
 use lib.Dec.{ltb, eqb}
 use borrow.Author.Tests.{eqb-true, ltb-true}
@@ -12,67 +12,27 @@ use Rattle.plain.specs.Record.{requestIn}
 use Rattle.plain.specs.Queue.{Item, idIs, slotIs, numberIs, isConfirmed, entryOf, confirmedPart}
 use Rattle.plain.specs.Steps.{Did, Answer, newEntry, numbered, workStep, offerStep, confirmStep}
 use Rattle.plain.specs.Site.{Site, Call, offer, work, confirm, read, look, fresh, sum, standing, classOf, freeSlot}
-use Rattle.plain.specs.Site.{call, act, accepts, inClass, commitOf, commitsBy}
+use Rattle.plain.specs.Site.{call, act, accepts, inClass, given, commitOf, commitsBy}
 use Rattle.plain.specs.Sound.{SoundClass, SoundSite, Differ}
 use Rattle.plain.proofs.Tests.{by-test, no}
 use Rattle.plain.proofs.Items.{follows-confirmed, Lasting, ending-commits}
 use Rattle.plain.proofs.Queues.{one, one-le}
-use Rattle.plain.proofs.Steps.{raise, Turnover, nothing, that, Works, unconcerned, one-done, last-done, work-step}
-use Rattle.plain.proofs.Steps.{Offers, offer-step}
-use Rattle.plain.proofs.Confirming.{Confirms, at-once, later, confirm-step}
-use Rattle.plain.proofs.Sites.{standing-change, class-found, not-queued, room, free, number-unused}
-use Rattle.plain.proofs.Sites.{work-accepted, offer-accepted, Confirmable, confirm-accepted}
-
--- the tests by which a sound site's requests differ last, and so does being confirmed
-pub id-lasts : (i : ℕ) → Lasting (idIs i)
-id-lasts i = record { work = λ e t. refl; back = λ e. refl }
-
-pub slot-lasts : (i : ℕ) → Lasting (slotIs i)
-slot-lasts i = record { work = λ e t. refl; back = λ e. refl }
-
-pub number-lasts : (n : ℕ) → Lasting (numberIs n)
-number-lasts n = record { work = λ e t. refl; back = λ e. refl }
-
-pub confirmed-lasts : Lasting isConfirmed
-confirmed-lasts = record { work = λ e t. refl; back = λ e. refl }
-
--- what is queued on a site after a step in one class
-pub turns : (s : Site) (c more : ℕ) (d : Did) (gone come : (Item → Bool) → ℕ) → c < 16 → Turnover (s .class c) (d .class) gone come
-    → (f : Item → Bool) → Lasting f → standing f (inClass s c more d .site) + gone f ≡ standing f s + come f
-turns s c more d gone come l t f h = omega (arith, standing-change f s c more d l, t f h)
-
--- WHAT AN ACCEPTED CALL DOES in its class
-module _ (s : Site) (w : SoundSite s) where
-  pub work-both : (c : ℕ) → accepts s (work c) ≡ true
-      → SoundClass c (s .confirmations) (workStep (s .class c) .class) × Works (s .class c) (workStep (s .class c))
-  work-both c a = let f = work-accepted s c a in work-step c (s .confirmations) (s .class c) (w .each c (f .0)) (f .1)
-
-  pub offer-both : (b : List ℕ) → accepts s (offer b) ≡ true
-      → Offers (requestIn b .class) (s .confirmations) (requestIn b) (freeSlot s) (s .class (requestIn b .class))
-      (offerStep (requestIn b) (freeSlot s) (s .class (requestIn b .class)))
-  offer-both b a =
-      let f = offer-accepted s b a in
-      offer-step (requestIn b .class) (s .confirmations) (s .class (requestIn b .class)) (requestIn b) (freeSlot s)
-      (w .each (requestIn b .class) (f .class)) (record { valid = f .valid; class = refl; slot-below = room s w (f .few) })
-
-  pub confirm-both : (i n : ℕ) → accepts s (confirm i n) ≡ true
-      → SoundClass (classOf s i) n (confirmStep i n (s .class (classOf s i)) .class)
-      × Confirms i n (s .class (classOf s i)) (confirmStep i n (s .class (classOf s i)))
-  confirm-both i n a =
-      let f = confirm-accepted s i n a in
-      confirm-step (classOf s i) (s .confirmations) i n (s .class (classOf s i)) (w .each (classOf s i) (f .known))
-      (class-found s i (f .known)) (f .waits) (omega (arith, f .next))
+use Rattle.plain.proofs.Steps.{raise, Turnover, nothing, that, Works, unconcerned, one-done, last-done}
+use Rattle.plain.proofs.Confirming.{Confirms, at-once, later}
+use Rattle.plain.proofs.Sites.{not-queued, room, free, number-unused, work-accepted, offer-accepted, Confirmable, confirm-accepted}
+use Rattle.plain.proofs.Accepted.{id-lasts, slot-lasts, number-lasts, confirmed-lasts, turns, work-both, offer-both, confirm-both}
+use Rattle.plain.proofs.Recent.{Keeping, call-keeping}
 
 -- DIFFERENT: no two requests pass one of a family of lasting tests
 module _ (P : ℕ → Item → Bool) (lasts : (j : ℕ) → Lasting (P j)) (s : Site) (w : SoundSite s) (u : Differ P s) where
   -- in class c of a site
-  differ-step : (c more : ℕ) (d : Did) (gone come : (Item → Bool) → ℕ) → c < 16 → Turnover (s .class c) (d .class) gone come
-      → ((j : ℕ) → (come (P j) ≤ gone (P j)) ⊎ ((come (P j) ≤ 1) × (standing (P j) s ≡ 0))) → Differ P (inClass s c more d .site)
-  differ-step c more d gone come l t new j = go (new j)
+  differ-step : (c : ℕ) (new : Option ℕ) (d : Did) (gone come : (Item → Bool) → ℕ) → c < 16 → Turnover (s .class c) (d .class) gone come
+      → ((j : ℕ) → (come (P j) ≤ gone (P j)) ⊎ ((come (P j) ≤ 1) × (standing (P j) s ≡ 0))) → Differ P (inClass s c new d .site)
+  differ-step c new d gone come l t fresh j = go (fresh j)
     where
-      go : (come (P j) ≤ gone (P j)) ⊎ ((come (P j) ≤ 1) × (standing (P j) s ≡ 0)) → standing (P j) (inClass s c more d .site) ≤ 1
-      go (inl le) = omega (arith, turns s c more d gone come l t (P j) (lasts j), u j)
-      go (inr z) = omega (arith, turns s c more d gone come l t (P j) (lasts j))
+      go : (come (P j) ≤ gone (P j)) ⊎ ((come (P j) ≤ 1) × (standing (P j) s ≡ 0)) → standing (P j) (inClass s c new d .site) ≤ 1
+      go (inl le) = omega (arith, turns s c new d gone come l t (P j) (lasts j), u j)
+      go (inr z) = omega (arith, turns s c new d gone come l t (P j) (lasts j))
 
   -- every call keeps it, if an offer brings in, and a confirmation turns into, only what stands nowhere
   differ-call : ((b : List ℕ) → accepts s (offer b) ≡ true → (j : ℕ) → P j (newEntry (requestIn b) (freeSlot s)) ≡ true → standing (P j) s ≡ 0)
@@ -81,14 +41,14 @@ module _ (P : ℕ → Item → Bool) (lasts : (j : ℕ) → Lasting (P j)) (s : 
   unfolding call act
   differ-call new num k = by-test (accepts s k) (λ t. rw t (go k t)) (λ f. rw f u)
     where
-      worked : (c : ℕ) → c < 16 → Works (s .class c) (workStep (s .class c)) → Differ P (inClass s c 0 (workStep (s .class c)) .site)
-      worked c l (unconcerned p p′ b z t) = differ-step c 0 (workStep (s .class c)) nothing nothing l t (λ j. inl (omega arith))
-      worked c l (one-done x y rest p p′ al m b z t) = differ-step c 0 (workStep (s .class c)) nothing nothing l t (λ j. inl (omega arith))
-      worked c l (last-done x y rest p p′ al en m b z t) = differ-step c 0 (workStep (s .class c)) (that x) nothing l t (λ j. inl (omega arith))
+      worked : (c : ℕ) → c < 16 → Works (s .class c) (workStep (s .class c)) → Differ P (inClass s c none (workStep (s .class c)) .site)
+      worked c l (unconcerned p p′ b z t) = differ-step c none (workStep (s .class c)) nothing nothing l t (λ j. inl (omega arith))
+      worked c l (one-done x y rest p p′ al m b z t) = differ-step c none (workStep (s .class c)) nothing nothing l t (λ j. inl (omega arith))
+      worked c l (last-done x y rest p p′ al en m b z t) = differ-step c none (workStep (s .class c)) (that x) nothing l t (λ j. inl (omega arith))
 
       offered : (b : List ℕ) → accepts s (offer b) ≡ true → Differ P (act s (offer b) .site)
       offered b a =
-          differ-step (requestIn b .class) 0 (offerStep (requestIn b) (freeSlot s) (s .class (requestIn b .class))) nothing (that (newEntry (requestIn b) (freeSlot s))) (offer-accepted s b a .class)
+          differ-step (requestIn b .class) none (offerStep (requestIn b) (freeSlot s) (s .class (requestIn b .class))) nothing (that (newEntry (requestIn b) (freeSlot s))) (offer-accepted s b a .class)
           (offer-both s w b a .turnover)
           (λ j. by-test (P j (newEntry (requestIn b) (freeSlot s)))
           (λ t. inr (one-le (P j) (newEntry (requestIn b) (freeSlot s)), new b a j t))
@@ -97,9 +57,9 @@ module _ (P : ℕ → Item → Bool) (lasts : (j : ℕ) → Lasting (P j)) (s : 
       confirmed : (i n : ℕ) → accepts s (confirm i n) ≡ true → Confirms i n (s .class (classOf s i)) (confirmStep i n (s .class (classOf s i)))
           → Differ P (act s (confirm i n) .site)
       confirmed i n a (at-once x b sl en p p′ r z t) =
-          differ-step (classOf s i) 1 (confirmStep i n (s .class (classOf s i))) (that x) nothing (confirm-accepted s i n a .known) t (λ j. inl (omega arith))
+          differ-step (classOf s i) (some i) (confirmStep i n (s .class (classOf s i))) (that x) nothing (confirm-accepted s i n a .known) t (λ j. inl (omega arith))
       confirmed i n a (later x y back en m e p b z t) =
-          differ-step (classOf s i) 1 (confirmStep i n (s .class (classOf s i))) (that x) (that y) (confirm-accepted s i n a .known) t
+          differ-step (classOf s i) (some i) (confirmStep i n (s .class (classOf s i))) (that x) (that y) (confirm-accepted s i n a .known) t
           (λ j. by-test (P j y)
           (λ v. elim (num i n a j x (rw e at v)) [ inl g ↦ inl (rw (v, g) (omega arith)) | inr g ↦ inr (one-le (P j) y, g) ])
           (λ f. inl (rw f (omega arith))))
@@ -144,19 +104,19 @@ pub record Rules (s : Site) : Type 0 where
 pub no-commit : (a : Answer) → commitOf a ≡ none → commitsBy a ≡ 0
 no-commit a e = rw (e, commitsBy)
 
--- a step in one class, with `more` confirmations
-module _ (s : Site) (w : SoundSite s) (c more : ℕ) (d : Did) (l : c < 16) (k : SoundClass c (s .confirmations + more) (d .class)) where
-  each-class : (e : ℕ) → e < 16 → SoundClass e (s .confirmations + more) (inClass s c more d .site .class e)
+-- a step in one class, with a new number or none
+module _ (s : Site) (w : SoundSite s) (c : ℕ) (new : Option ℕ) (d : Did) (l : c < 16) (k : SoundClass c (s .confirmations + given new) (d .class)) where
+  each-class : (e : ℕ) → e < 16 → SoundClass e (s .confirmations + given new) (inClass s c new d .site .class e)
   each-class e m =
       by-test (eqb e c)
-      (λ t. rw t (subst (λ (n : ℕ). SoundClass n (s .confirmations + more) (d .class)) (sym (eqb-true e c t)) k))
-      (λ f. rw f (raise e (s .confirmations) (s .confirmations + more) (s .class e) (omega arith) (w .each e m)))
+      (λ t. rw t (subst (λ (n : ℕ). SoundClass n (s .confirmations + given new) (d .class)) (sym (eqb-true e c t)) k))
+      (λ f. rw f (raise e (s .confirmations) (s .confirmations + given new) (s .class e) (omega arith) (w .each e m)))
 
   rules : (gone come : (Item → Bool) → ℕ) → Turnover (s .class c) (d .class) gone come
-      → commitsBy (d .answer) + come isConfirmed ≡ gone isConfirmed + more → Rules (inClass s c more d .site)
+      → commitsBy (d .answer) + come isConfirmed ≡ gone isConfirmed + given new → Rules (inClass s c new d .site)
   rules gone come t y = record {
     each = each-class;
-    tally = omega (arith, w .tally, turns s c more d gone come l t isConfirmed confirmed-lasts);
+    tally = omega (arith, w .tally, turns s c new d gone come l t isConfirmed confirmed-lasts);
   }
 
 -- the first of a confirmed part is confirmed
@@ -168,7 +128,7 @@ part-confirmed (y ∷ q) x rest e =
     (λ f. part-confirmed q x rest (rw f at e))
 
 module _ (s : Site) (w : SoundSite s) where
-  work-rules : (c : ℕ) → accepts s (work c) ≡ true → Rules (inClass s c 0 (workStep (s .class c)) .site)
+  work-rules : (c : ℕ) → accepts s (work c) ≡ true → Rules (inClass s c none (workStep (s .class c)) .site)
   work-rules c a = go (work-both s w c a .1)
     where
       l : c < 16
@@ -180,12 +140,12 @@ module _ (s : Site) (w : SoundSite s) where
       k : SoundClass c (s .confirmations + 0) (d .class)
       k = raise c (s .confirmations) (s .confirmations + 0) (d .class) (omega arith) (work-both s w c a .0)
 
-      go : Works (s .class c) d → Rules (inClass s c 0 d .site)
-      go (unconcerned p p′ b z t) = rules s w c 0 d l k nothing nothing t (omega (arith, no-commit (d .answer) z))
-      go (one-done x y rest p p′ al m b z t) = rules s w c 0 d l k nothing nothing t (omega (arith, no-commit (d .answer) z))
+      go : Works (s .class c) d → Rules (inClass s c none d .site)
+      go (unconcerned p p′ b z t) = rules s w c none d l k nothing nothing t (omega (arith, no-commit (d .answer) z))
+      go (one-done x y rest p p′ al m b z t) = rules s w c none d l k nothing nothing t (omega (arith, no-commit (d .answer) z))
       go (last-done x y rest p p′ al en m b z t) =
           let f : that x isConfirmed ≡ 1 = rw (part-confirmed (s .class c .queue) x rest p) in
-          rules s w c 0 d l k (that x) nothing t (omega (arith, ap commitsBy z ∙ ending-commits y))
+          rules s w c none d l k (that x) nothing t (omega (arith, ap commitsBy z ∙ ending-commits y))
 
   offer-rules : (b : List ℕ) → accepts s (offer b) ≡ true → Rules (act s (offer b) .site)
   unfolding act offerStep
@@ -193,12 +153,12 @@ module _ (s : Site) (w : SoundSite s) where
       let o = offer-both s w b a in
       let c = requestIn b .class in
       let d = offerStep (requestIn b) (freeSlot s) (s .class c) in
-      rules s w c 0 d (offer-accepted s b a .class)
+      rules s w c none d (offer-accepted s b a .class)
       (raise c (s .confirmations) (s .confirmations + 0) (d .class) (omega arith) (o .sound))
       nothing (that (newEntry (requestIn b) (freeSlot s))) (o .turnover) refl
 
   confirm-rules : (i n : ℕ) → accepts s (confirm i n) ≡ true
-      → Rules (inClass s (classOf s i) 1 (confirmStep i n (s .class (classOf s i))) .site)
+      → Rules (inClass s (classOf s i) (some i) (confirmStep i n (s .class (classOf s i))) .site)
   confirm-rules i n a = go (confirm-both s w i n a .1)
     where
       f : Confirmable s i n
@@ -216,11 +176,11 @@ module _ (s : Site) (w : SoundSite s) where
       waits : (x : Item) → entryOf i (s .class c .queue) ≡ some x → that x isConfirmed ≡ 0
       waits x en = let g : isConfirmed x ≡ false = rw en at (f .waits) in rw g
 
-      go : Confirms i n (s .class c) d → Rules (inClass s c 1 d .site)
-      go (at-once x b sl en p p′ r z t) = rules s w c 1 d (f .known) k (that x) nothing t (omega (arith, ap commitsBy z, waits x en))
+      go : Confirms i n (s .class c) d → Rules (inClass s c (some i) d .site)
+      go (at-once x b sl en p p′ r z t) = rules s w c (some i) d (f .known) k (that x) nothing t (omega (arith, ap commitsBy z, waits x en))
       go (later x y back en m e p b z t) =
           let g : that y isConfirmed ≡ 1 = rw (e, follows-confirmed 0 (numbered n x) (omega (arith, f .next))) in
-          rules s w c 1 d (f .known) k (that x) (that y) t (omega (arith, ap commitsBy z, waits x en))
+          rules s w c (some i) d (f .known) k (that x) (that y) t (omega (arith, ap commitsBy z, waits x en))
 
   call-rules : (k : Call) → Rules (call s k .site)
   unfolding call act
@@ -240,7 +200,17 @@ module _ (s : Site) (w : SoundSite s) where
 pub call-sound : (s : Site) (k : Call) → SoundSite s → SoundSite (call s k .site)
 call-sound s k w =
     let r = call-rules s w k in
-    record { each = r .each; slots = call-slots s w k; ids = call-ids s w k; numbers = call-numbers s w k; tally = r .tally }
+    let m = call-keeping s w k in
+    record {
+      each = r .each;
+      slots = call-slots s w k;
+      ids = call-ids s w k;
+      numbers = call-numbers s w k;
+      tally = r .tally;
+      kept-not-zero = m .not-zero;
+      kept-differ = m .differ;
+      kept-queued = m .queued;
+    }
 
 -- A FRESH SITE IS SOUND
 pub fresh-sound : SoundSite fresh
@@ -251,4 +221,7 @@ fresh-sound = record {
   ids = λ j. omega arith;
   numbers = λ j. omega arith;
   tally = refl;
+  kept-not-zero = λ n r. absurd (omega (arith, r .given, r .within));
+  kept-differ = λ m n r q. absurd (omega (arith, r .given, r .within));
+  kept-queued = λ n r. absurd (omega (arith, r .given, r .within));
 }

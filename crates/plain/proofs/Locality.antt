@@ -1,4 +1,4 @@
--- A class depends on itself: work and read on nothing else, offer and confirm on four things more; and a call leaves the other classes. Assumes nothing.
+-- A class depends on itself: work and read on nothing else, offer and confirm on five things more; and a call leaves the other classes. Assumes nothing.
 use Prim.Native.Nat.{ℕ, zero, suc, _+_, _<_, _≤_}
 use native.Mathlib.Omega.{arith}
 use mathlib.Core.Path.{_≡_, refl, sym, _∙_}
@@ -66,7 +66,7 @@ module _ (s t : Site) (c : ℕ) (h : Shares s t c) where
 
   offer-refusal : (b : List ℕ) → refusal s (offer b) ≡ refusal t (offer b)
   unfolding refusal
-  offer-refusal b = rw (h .ids (requestIn b .id), same-queued)
+  offer-refusal b = rw (h .ids (requestIn b .id), h .kept (requestIn b .id), same-queued)
 
   pub offer-local : (b : List ℕ) → requestIn b .class ≡ c → ActAlike s t c (offer b)
   unfolding call act

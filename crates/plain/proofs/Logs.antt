@@ -4,6 +4,7 @@ use Prim.Native.Nat.{ℕ, suc, _+_, _<_}
 use native.Mathlib.Omega.{arith}
 use mathlib.Core.Path.{_≡_, refl, ap, _∙_}
 use mathlib.Core.Bool.{Bool, true, false}
+use mathlib.Core.Option.{none, some}
 use mathlib.Core.List.{List, [], _∷_, _++_}
 use lib.ListN.{length, length-append}
 use Rattle.plain.specs.Ops.{Request}
@@ -21,7 +22,7 @@ use Rattle.plain.proofs.Queues.{one, one-same, find}
 use Rattle.plain.proofs.Steps.{nothing, that, Works, unconcerned, one-done, last-done}
 use Rattle.plain.proofs.Confirming.{Confirms, at-once, later}
 use Rattle.plain.proofs.Sites.{class-found, work-accepted, offer-accepted, Confirmable, confirm-accepted}
-use Rattle.plain.proofs.Kept.{turns, work-both, offer-both, confirm-both}
+use Rattle.plain.proofs.Accepted.{turns, work-both, offer-both, confirm-both}
 use Rattle.plain.proofs.Moves.{nothing-committed, found, ended-is}
 use Rattle.plain.proofs.Demand2.{after-sound}
 
@@ -81,7 +82,7 @@ module _ (f : Request → Bool) where
     unfolding call act offeredBy committedBy offerStep
     offer-balanced b a =
         let d = offerStep (requestIn b) (freeSlot s) (s .class (requestIn b .class)) in
-        let t = turns s (requestIn b .class) 0 d nothing (that (newEntry (requestIn b) (freeSlot s))) (offer-accepted s b a .class)
+        let t = turns s (requestIn b .class) none d nothing (that (newEntry (requestIn b) (freeSlot s))) (offer-accepted s b a .class)
         (offer-both s w b a .turnover) of-item lasts in
         rw a (omega (arith, t))
 
@@ -95,12 +96,12 @@ module _ (f : Request → Bool) where
         l : c < 16
         l = work-accepted s c a .0
 
-        go : Works (s .class c) d → 0 + standing of-item s ≡ count f (committedBy s (d .answer)) + standing of-item (inClass s c 0 d .site)
-        go (unconcerned p p′ b z t) = rw (nothing-committed s (d .answer) z) (omega (arith, turns s c 0 d nothing nothing l t of-item lasts))
+        go : Works (s .class c) d → 0 + standing of-item s ≡ count f (committedBy s (d .answer)) + standing of-item (inClass s c none d .site)
+        go (unconcerned p p′ b z t) = rw (nothing-committed s (d .answer) z) (omega (arith, turns s c none d nothing nothing l t of-item lasts))
         go (one-done x y rest p p′ al m b z t) =
-            rw (nothing-committed s (d .answer) z) (omega (arith, turns s c 0 d nothing nothing l t of-item lasts))
+            rw (nothing-committed s (d .answer) z) (omega (arith, turns s c none d nothing nothing l t of-item lasts))
         go (last-done x y rest p p′ al en m b z t) =
-            rw (ended-is s w c x y (d .answer) l (en, al, z) .0) (omega (arith, turns s c 0 d (that x) nothing l t of-item lasts))
+            rw (ended-is s w c x y (d .answer) l (en, al, z) .0) (omega (arith, turns s c none d (that x) nothing l t of-item lasts))
 
     confirm-balanced : (i n : ℕ) → accepts s (confirm i n) ≡ true → Balanced (confirm i n)
     unfolding call act offeredBy committedBy
@@ -115,13 +116,13 @@ module _ (f : Request → Bool) where
         l : c < 16
         l = confirm-accepted s i n a .known
 
-        go : Confirms i n (s .class c) d → 0 + standing of-item s ≡ count f (committedBy s (d .answer)) + standing of-item (inClass s c 1 d .site)
+        go : Confirms i n (s .class c) d → 0 + standing of-item s ≡ count f (committedBy s (d .answer)) + standing of-item (inClass s c (some i) d .site)
         go (at-once x b sl en p p′ r z t) =
             let k : committedBy s (d .answer) ≡ asks x = rw (z, found s w c i x l en) in
-            rw k (omega (arith, turns s c 1 d (that x) nothing l t of-item lasts))
+            rw k (omega (arith, turns s c (some i) d (that x) nothing l t of-item lasts))
         go (later x y back en m e p b z t) =
             rw (nothing-committed s (d .answer) (ap commitOf z))
-            (omega (arith, turns s c 1 d (that x) (that y) l t of-item lasts, one-same of-item y x (rw e)))
+            (omega (arith, turns s c (some i) d (that x) (that y) l t of-item lasts, one-same of-item y x (rw e)))
 
     balanced : (k : Call) → Balanced k
     balanced k = by-test (accepts s k) (λ t. go k t) (λ g. refused k g)

@@ -2,7 +2,7 @@
 use Prim.Native.Nat.{ℕ, _<_}
 use mathlib.Core.Path.{_≡_, refl, sym, ap, _∙_}
 use mathlib.Core.Bool.{Bool, true, false}
-use mathlib.Core.Option.{none, some}
+use mathlib.Core.Option.{Option, none, some}
 use mathlib.Core.List.{List, [], _∷_, _++_, append-nil}
 use lib.Dec.{eqb}
 use borrow.Author.Tests.{eqb-true, eqb-false, eq-eqb, ne-eqb}
@@ -20,7 +20,7 @@ use Rattle.plain.proofs.Queues.{asked-append, all-first, first-passes, 
 use Rattle.plain.proofs.Steps.{Works, unconcerned, one-done, last-done}
 use Rattle.plain.proofs.Confirming.{Confirms, at-once, later}
 use Rattle.plain.proofs.Sites.{at-other, class-is, work-accepted, confirm-accepted}
-use Rattle.plain.proofs.Kept.{id-lasts, work-both, confirm-both, offer-both}
+use Rattle.plain.proofs.Accepted.{id-lasts, work-both, confirm-both, offer-both}
 
 -- the confirmed part with one more
 part-more : (k k′ : Class) (x : Item) → confirmedPart (k′ .queue) ≡ confirmedPart (k .queue) ++ (x ∷ [])
@@ -95,9 +95,9 @@ module _ (s : Site) (w : SoundSite s) where
   cm a d = ofClass d (committedBy s a)
 
   -- a step in class c, as class d sees it
-  in-class : (c d more : ℕ) (x : Did) (k : Call) → (d ≡ c → Moves (s .class c) (x .class) (cf k c) (cm (x .answer) c)) → ((d ≡ c → ⊥) → (cf k d ≡ []) × (cm (x .answer) d ≡ []))
-      → Moves (s .class d) (inClass s c more x .site .class d) (cf k d) (cm (x .answer) d)
-  in-class c d more x k f g =
+  in-class : (c d : ℕ) (new : Option ℕ) (x : Did) (k : Call) → (d ≡ c → Moves (s .class c) (x .class) (cf k c) (cm (x .answer) c)) → ((d ≡ c → ⊥) → (cf k d ≡ []) × (cm (x .answer) d ≡ []))
+      → Moves (s .class d) (inClass s c new x .site .class d) (cf k d) (cm (x .answer) d)
+  in-class c d new x k f g =
       by-test (eqb d c)
       (λ t. let p : d ≡ c = eqb-true d c t in rw (p, eq-eqb c c refl) (f p))
       (λ t. let n : d ≡ c → ⊥ = eqb-false d c t in rw (at-other c (x .class) (s .class) d n, g n .0, g n .1) (still (s .class d)))
@@ -112,7 +112,7 @@ module _ (s : Site) (w : SoundSite s) where
   work-moves : (c d : ℕ) → accepts s (work c) ≡ true → Moves (s .class d) (act s (work c) .site .class d) (cf (work c) d) (cm (act s (work c) .answer) d)
   unfolding act confirmedBy
   work-moves c d a =
-      in-class c d 0 x (work c)
+      in-class c d none x (work c)
       (λ p. worked-off (s .class c) x _ (λ z. rw (nothing-committed s _ z)) (λ y y′ e. let f = ended-is c y y′ _ l e in rw (f .0) (mine c y (f .1))) (work-both s w c a .1))
       (λ n. (refl, go n (work-both s w c a .1)))
     where
@@ -132,7 +132,7 @@ module _ (s : Site) (w : SoundSite s) where
       → Moves (s .class d) (act s (confirm i n) .site .class d) (cf (confirm i n) d) (cm (act s (confirm i n) .answer) d)
   unfolding act confirmedBy committedBy
   confirm-moves i n d a =
-      in-class c d 1 x (confirm i n)
+      in-class c d (some i) x (confirm i n)
       (λ p. confirmed-off i n (s .class c) x _ _ (λ y en. took c y en (mine c y)) (λ z. rw (nothing-committed s _ z))
       (λ y b sl en an. gave c y b sl en an (mine c y)) (confirm-both s w i n a .1))
       (λ m. go m (confirm-both s w i n a .1))
@@ -169,7 +169,7 @@ module _ (s : Site) (w : SoundSite s) where
   unfolding act confirmedBy committedBy offerStep
   offer-moves b d a =
       let r = requestIn b in
-      in-class (r .class) d 0 (offerStep r (freeSlot s) (s .class (r .class))) (offer b)
+      in-class (r .class) d none (offerStep r (freeSlot s) (s .class (r .class))) (offer b)
       (λ p. same-part (s .class (r .class)) _ (offer-both s w b a .part) refl)
       (λ n. (refl, refl))
 

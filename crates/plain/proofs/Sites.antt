@@ -4,6 +4,7 @@ use native.Mathlib.Omega.{arith}
 use mathlib.Core.Path.{_≡_, refl, ap, _∙_}
 use mathlib.Core.Logic.{inl, inr}
 use mathlib.Core.Bool.{Bool, true, false, cond, and-false}
+use mathlib.Core.Option.{Option}
 use mathlib.Core.List.{List, [], _∷_}
 use lib.Dec.{ltb, eqb}
 use lib.ListN.{length}
@@ -12,8 +13,8 @@ use Rattle.plain.specs.Ops.{valid}
 use Rattle.plain.specs.Record.{isRecord, recordRules, request, requestIn}
 use Rattle.plain.specs.Queue.{Item, idIs, slotIs, numberIs, any, count, has, asked}
 use Rattle.plain.specs.Steps.{Class, Did, idle}
-use Rattle.plain.specs.Site.{Site, offer, work, confirm, read, look, accepts, refusal, tests}
-use Rattle.plain.specs.Site.{lowest, sum, standing, classOf, entryAt, confirmedAt, isFree, freeSlot, numberQueued}
+use Rattle.plain.specs.Site.{Site, offer, work, confirm, read, look, accepts, refusal, row, tests}
+use Rattle.plain.specs.Site.{lowest, sum, standing, classOf, entryAt, confirmedAt, isFree, freeSlot, numberQueued, isKept}
 use Rattle.plain.specs.Site.{atClass, inClass}
 use Rattle.plain.specs.Sound.{All, InOrder, Waiting, SoundSite, Belongs}
 use Rattle.plain.proofs.Tests.{by-test, no, all-true}
@@ -31,11 +32,11 @@ pub at-other : (c : ℕ) (k : Class) (f : ℕ → Class) (d : ℕ) → (d ≡ c 
 at-other c k f d n = rw (ne-eqb d c n)
 
 -- COUNTS over the site
-pub standing-change : (f : Item → Bool) (s : Site) (c more : ℕ) (d : Did) → c < 16
-    → standing f (inClass s c more d .site) + count f (s .class c .queue) ≡ standing f s + count f (d .class .queue)
+pub standing-change : (f : Item → Bool) (s : Site) (c : ℕ) (new : Option ℕ) (d : Did) → c < 16
+    → standing f (inClass s c new d .site) + count f (s .class c .queue) ≡ standing f s + count f (d .class .queue)
 unfolding standing
-standing-change f s c more d l =
-    let r = sum-change (λ e. count f (s .class e .queue)) (λ e. count f (inClass s c more d .site .class e .queue)) 16 c l
+standing-change f s c new d l =
+    let r = sum-change (λ e. count f (s .class e .queue)) (λ e. count f (inClass s c new d .site .class e .queue)) 16 c l
     (λ e ne. ap (λ (k : Class). count f (k .queue)) (at-other c (d .class) (s .class) e ne)) in
     r ∙ ap (λ (k : Class). standing f s + count f (k .queue)) (at-same c (d .class) (s .class))
 
@@ -128,13 +129,14 @@ number-unused s w j l =
 pub work-accepted : (s : Site) (c : ℕ) → accepts s (work c) ≡ true → (c < 16) × (idle (s .class c .queue) ≡ false)
 unfolding refusal
 work-accepted s c a =
-    let p = none-holds 2 (tests s (work c)) (rising s (work c)) (eqb-true _ 0 a) in
+    let p = none-holds (row 2) (tests s (work c)) (rising s (work c)) (eqb-true _ 0 a) in
     (leb-false _ _ (p .0), p .1 .0)
 
 pub record Offered (s : Site) (b : List ℕ) : Type 0 where
   pub valid : valid (requestIn b) ≡ true
   pub class : requestIn b .class < 16
   pub unknown : 16 ≤ classOf s (requestIn b .id)
+  pub new : isKept s (requestIn b .id) ≡ false
   pub few : numberQueued s < 128
 
 pub record-valid : (b : List ℕ) → isRecord b ≡ true → valid (requestIn b) ≡ true
@@ -144,13 +146,14 @@ record-valid b t = all-true (recordRules b) t .1 .1 .1 .1 .0
 pub offer-accepted : (s : Site) (b : List ℕ) → accepts s (offer b) ≡ true → Offered s b
 unfolding refusal request
 offer-accepted s b a =
-    let p = none-holds 2 (tests s (offer b)) (rising s (offer b)) (eqb-true _ 0 a) in
+    let p = none-holds (row 2) (tests s (offer b)) (rising s (offer b)) (eqb-true _ 0 a) in
     let v : valid (requestIn b) ≡ true = by-test (isRecord b) (λ t. record-valid b t) (λ f. no _ refl (rw f at (p .0))) in
     record {
       valid = v;
       class = is-valid (requestIn b) v .class;
       unknown = ltb-false _ _ (p .1 .0);
-      few = leb-false _ _ (p .1 .1 .0);
+      new = p .1 .1 .0;
+      few = leb-false _ _ (p .1 .1 .1 .0);
     }
 
 pub record Confirmable (s : Site) (i n : ℕ) : Type 0 where
@@ -162,7 +165,7 @@ pub record Confirmable (s : Site) (i n : ℕ) : Type 0 where
 pub confirm-accepted : (s : Site) (i n : ℕ) → accepts s (confirm i n) ≡ true → Confirmable s i n
 unfolding refusal
 confirm-accepted s i n a =
-    let p = none-holds 2 (tests s (confirm i n)) (rising s (confirm i n)) (eqb-true _ 0 a) in
+    let p = none-holds (row 2) (tests s (confirm i n)) (rising s (confirm i n)) (eqb-true _ 0 a) in
     record {
       next = eqb-true _ _ (not-false _ (p .1 .0));
       known = ltb-true _ _ (not-false _ (p .1 .1 .0));
@@ -172,8 +175,8 @@ confirm-accepted s i n a =
 
 pub read-accepted : (s : Site) (c k : ℕ) → accepts s (read c k) ≡ true → c < 16
 unfolding refusal
-read-accepted s c k a = leb-false _ _ (none-holds 2 (tests s (read c k)) (rising s (read c k)) (eqb-true _ 0 a) .0)
+read-accepted s c k a = leb-false _ _ (none-holds (row 2) (tests s (read c k)) (rising s (read c k)) (eqb-true _ 0 a) .0)
 
 pub look-accepted : (s : Site) (i : ℕ) → accepts s (look i) ≡ true → classOf s i < 16
 unfolding refusal
-look-accepted s i a = ltb-true _ _ (not-false _ (none-holds 2 (tests s (look i)) (rising s (look i)) (eqb-true _ 0 a) .0))
+look-accepted s i a = ltb-true _ _ (not-false _ (none-holds (row 2) (tests s (look i)) (rising s (look i)) (eqb-true _ 0 a) .0))

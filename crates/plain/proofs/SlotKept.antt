@@ -94,16 +94,16 @@ module _ (s : Site) (w : SoundSite s) (r : Request) (j : ℕ) (u : Keeps s r j) 
   kept k = keeps (call s k .site) (call-sound s k w) r j x (u .class) (u .request) (u .slot)
 
   -- a step in one class leaves it, if it does so in the class of the request
-  stays : (d more : ℕ) (y : Did) → (d ≡ c → Stands (r .id) x (y .class .queue)) → Stands (r .id) x (inClass s d more y .site .class c .queue)
-  stays d more y g =
+  stays : (d : ℕ) (new : Option ℕ) (y : Did) → (d ≡ c → Stands (r .id) x (y .class .queue)) → Stands (r .id) x (inClass s d new y .site .class c .queue)
+  stays d new y g =
       by-test (eqb c d)
       (λ t. rw t (g (sym (eqb-true c d t))))
       (λ t. rw t (x, u .queued, refl, refl))
 
   -- the head is committed and its slot is free
-  freed : (k : Call) (more n : ℕ) (d : Did) → call s k ≡ inClass s c more d → Off (s .class c) d x n → 0 < n → BringsBoth k r x n → Frees s k (call s k) r j
+  freed : (k : Call) (new : Option ℕ) (n : ℕ) (d : Did) → call s k ≡ inClass s c new d → Off (s .class c) d x n → 0 < n → BringsBoth k r x n → Frees s k (call s k) r j
   unfolding isFree
-  freed k more n d is o m b = record {
+  freed k new n d is o m b = record {
     kept = u;
     number = n;
     confirmed = m;
@@ -120,8 +120,8 @@ module _ (s : Site) (w : SoundSite s) (r : Request) (j : ℕ) (u : Keeps s r j) 
       shorter : count (slotIs j) (s .class c .queue) ≡ 1 + count (slotIs j) (d .class .queue)
       shorter = ap (count (slotIs j)) (o .behind) ∙ rw (eq-eqb (x .slot) j (u .slot))
 
-      gone : standing (slotIs j) (inClass s c more d .site) ≡ 0
-      gone = omega (arith, standing-change (slotIs j) s c more d (u .class), w .slots j, shorter)
+      gone : standing (slotIs j) (inClass s c new d .site) ≡ 0
+      gone = omega (arith, standing-change (slotIs j) s c new d (u .class), w .slots j, shorter)
 
   abbrev After : Call → Type 0
   After k = Keeps (call s k .site) r j ⊎ Frees s k (call s k) r j
@@ -133,12 +133,12 @@ module _ (s : Site) (w : SoundSite s) (r : Request) (j : ℕ) (u : Keeps s r j) 
       d : Did
       d = workStep (s .class c)
 
-      is : call s (work c) ≡ inClass s c 0 d
+      is : call s (work c) ≡ inClass s c none d
       is = rw a
 
       go : AfterWork (r .id) (s .class c) d x → After (work c)
-      go (inl y) = inl (kept (work c) (rw is (stays c 0 d (λ p. y))))
-      go (inr y) = inr (freed (work c) 0 (x .number) d is (y .0) (y .1) (inl (refl, refl, y .2)))
+      go (inl y) = inl (kept (work c) (rw is (stays c none d (λ p. y))))
+      go (inr y) = inr (freed (work c) none (x .number) d is (y .0) (y .1) (inl (refl, refl, y .2)))
 
   confirmed-here : (i n : ℕ) → accepts s (confirm i n) ≡ true → classOf s i ≡ c → After (confirm i n)
   unfolding call act standing
@@ -147,16 +147,16 @@ module _ (s : Site) (w : SoundSite s) (r : Request) (j : ℕ) (u : Keeps s r j) 
       d : Did
       d = confirmStep i n (s .class c)
 
-      is : call s (confirm i n) ≡ inClass s c 1 d
+      is : call s (confirm i n) ≡ inClass s c (some i) d
       is = rw (a, p)
 
       once : count (idIs (r .id)) (s .class c .queue) ≤ 1
       once = omega (arith, w .ids (r .id), sum-term (λ c. count (idIs (r .id)) (s .class c .queue)) 16 c (u .class))
 
       go : AfterConfirm (r .id) i n (s .class c) d x → After (confirm i n)
-      go (inl y) = inl (kept (confirm i n) (rw is (stays c 1 d (λ q. y))))
+      go (inl y) = inl (kept (confirm i n) (rw is (stays c (some i) d (λ q. y))))
       go (inr y) =
-          inr (freed (confirm i n) 1 n d is (y .0) (omega (arith, confirm-accepted s i n a .next)) (inr (ap (λ (m : ℕ). confirm m n) (y .1), y .2)))
+          inr (freed (confirm i n) (some i) n d is (y .0) (omega (arith, confirm-accepted s i n a .next)) (inr (ap (λ (m : ℕ). confirm m n) (y .1), y .2)))
 
   -- KEPT OR FREED, and not both
   pub keeps-or-frees : (k : Call) → Keeps (call s k .site) r j ⊎ Frees s k (call s k) r j
@@ -167,17 +167,17 @@ module _ (s : Site) (w : SoundSite s) (r : Request) (j : ℕ) (u : Keeps s r j) 
       go (offer b) a =
           let d = requestIn b .class in
           let y = newEntry (requestIn b) (freeSlot s) in
-          inl (kept (offer b) (rw a (stays d 0 (offerStep (requestIn b) (freeSlot s) (s .class d))
+          inl (kept (offer b) (rw a (stays d none (offerStep (requestIn b) (freeSlot s) (s .class d))
           (λ p. (x, first-append (idIs (r .id)) (s .class d .queue) x y (rw p (u .queued)), refl, refl)))))
       go (work d) a =
           by-test (eqb d c)
           (λ t. let p : d ≡ c = eqb-true d c t in rw p (worked-here (rw p at a)))
-          (λ f. inl (kept (work d) (rw a (stays d 0 (workStep (s .class d)) (λ p. absurd (eqb-false d c f p))))))
+          (λ f. inl (kept (work d) (rw a (stays d none (workStep (s .class d)) (λ p. absurd (eqb-false d c f p))))))
       go (confirm i n) a =
           let d = classOf s i in
           by-test (eqb d c)
           (λ t. confirmed-here i n a (eqb-true d c t))
-          (λ f. inl (kept (confirm i n) (rw a (stays d 1 (confirmStep i n (s .class d)) (λ p. absurd (eqb-false d c f p))))))
+          (λ f. inl (kept (confirm i n) (rw a (stays d (some i) (confirmStep i n (s .class d)) (λ p. absurd (eqb-false d c f p))))))
       go (read d k) a = inl (kept (read d k) (rw a (x, u .queued, refl, refl)))
       go (look i) a = inl (kept (look i) (rw a (x, u .queued, refl, refl)))
 

@@ -31,6 +31,11 @@ lowest-is p from (suc count) c l m t u =
         (λ y. let e : from ≡ c = eqb-true from c y in let z : true ≡ false = sym t ∙ ap p (sym e) ∙ f in let o : _≡_ {A = ℕ} 0 1 = cc in absurd (omega arith))
         (λ y. let ne : from ≡ c → ⊥ = eqb-false from c y in omega arith)
 
+pub lowest-from : (p : ℕ → Bool) (from count : ℕ) → from ≤ lowest p from count
+lowest-from p from zero = omega arith
+lowest-from p from (suc count) =
+    by-test (p from) (λ t. rw t (omega arith)) (λ f. rw f (omega (arith, lowest-from p (suc from) count)))
+
 pub lowest-le : (p : ℕ → Bool) (from count : ℕ) → lowest p from count ≤ from + count
 lowest-le p from zero = omega arith
 lowest-le p from (suc count) =

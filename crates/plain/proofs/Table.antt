@@ -1,13 +1,13 @@
--- The table of refusals: a number is given exactly when its test holds and none before it does, and where several hold the smallest is given.
+-- The table of refusals: a number is given exactly when its test holds and none before it does, and where several hold the first in the table.
 -- Assumes nothing.
-use Prim.Native.Nat.{ℕ, _<_, _≤_}
+use Prim.Native.Nat.{ℕ, _≤_}
 use native.Mathlib.Omega.{arith}
 use mathlib.Core.Path.{_≡_, refl, ap, subst}
 use mathlib.Core.Logic.{_⊎_, inl, inr}
 use mathlib.Core.Bool.{Bool, true, false}
 use mathlib.Core.List.{List, [], _∷_, _++_}
 use lib.Dec.{T, ltb, ltb→lt}
-use Rattle.plain.specs.Site.{Site, Call, offer, work, confirm, read, look, tests, first, refusal, call, accepts}
+use Rattle.plain.specs.Site.{Site, Call, offer, work, confirm, read, look, tests, row, first, refusal, call, accepts}
 use Rattle.plain.specs.Steps.{refused}
 use Rattle.plain.specs.Sound.{All}
 use Rattle.plain.proofs.Tests.{by-test}
@@ -16,10 +16,10 @@ use Rattle.plain.proofs.Tests.{by-test}
 abbrev pub NoneHolds : List (Bool × ℕ) → Type 0
 NoneHolds ts = All (λ t. t .0 ≡ false) ts
 
--- the numbers of a list rise from above m; the checker computes it at a list of numerals
+-- the rows of a list rise from above m; the checker computes it at a list of numerals
 abbrev pub Rising : ℕ → List (Bool × ℕ) → Type 0
 Rising m [] = Unit
-Rising m (t ∷ ts) = T (ltb m (t .1)) × Rising (t .1) ts
+Rising m (t ∷ ts) = T (ltb m (row (t .1))) × Rising (row (t .1)) ts
 
 -- the number n belongs to a test that holds, and no test before it does
 pub record Given (ts : List (Bool × ℕ)) (n : ℕ) : Type 0 where
@@ -34,8 +34,8 @@ pub none-holds : (m : ℕ) (ts : List (Bool × ℕ)) → Rising m ts → first t
 none-holds m [] n e = tt
 none-holds m (t ∷ ts) n e =
     by-test (t .0)
-    (λ y. let z : t .1 ≡ 0 = rw y at e in absurd (omega (arith, ltb→lt m (t .1) (n .0))))
-    (λ f. (f, none-holds (t .1) ts (n .1) (rw f at e)))
+    (λ y. let z : t .1 ≡ 0 = rw y at e in absurd (omega (arith, ltb→lt m (row (t .1)) (n .0), ap row z)))
+    (λ f. (f, none-holds (row (t .1)) ts (n .1) (rw f at e)))
 
 -- exactly when, both ways
 pub first-given : (ts : List (Bool × ℕ)) → NoneHolds ts ⊎ Given ts (first ts)
@@ -65,39 +65,28 @@ given-first ts n g = rw (g .is) (go (g .before) (g .fails))
     go [] h = rw (g .holds)
     go (t ∷ before) h = rw (h .0) (go before (h .1))
 
--- of all whose tests hold the smallest is given
-least : (m : ℕ) (ts : List (Bool × ℕ)) → Rising m ts → (first ts ≡ 0) ⊎ (m < first ts)
-least m [] r = inl refl
-least m (t ∷ ts) r =
+-- of all whose tests hold the first in the table is given
+pub in-order : (m : ℕ) (ts : List (Bool × ℕ)) → Rising m ts → All (λ t. t .0 ≡ true → row (first ts) ≤ row (t .1)) ts
+in-order m [] r = tt
+in-order m (t ∷ ts) r =
     by-test (t .0)
-    (λ y. rw y (inr (ltb→lt m (t .1) (r .0))))
-    (λ f. rw f (more (least (t .1) ts (r .1))))
+    (λ y. rw y ((λ e. omega arith), above (row (t .1)) ts (r .1)))
+    (λ f. rw f ((λ e. no-both e), in-order (row (t .1)) ts (r .1)))
   where
-    more : (first ts ≡ 0) ⊎ (t .1 < first ts) → (first ts ≡ 0) ⊎ (m < first ts)
-    more (inl e) = inl e
-    more (inr l) = inr (omega (arith, ltb→lt m (t .1) (r .0)))
-
-pub smallest : (m : ℕ) (ts : List (Bool × ℕ)) → Rising m ts → All (λ t. t .0 ≡ true → first ts ≤ t .1) ts
-smallest m [] r = tt
-smallest m (t ∷ ts) r =
-    by-test (t .0)
-    (λ y. rw y ((λ e. omega arith), above (t .1) ts (r .1)))
-    (λ f. rw f ((λ e. no-both e), smallest (t .1) ts (r .1)))
-  where
-    no-both : false ≡ true → first ts ≤ t .1
+    no-both : false ≡ true → row (first ts) ≤ row (t .1)
     no-both e = let z : _≡_ {A = ℕ} 0 1 = cc in absurd (omega arith)
 
-    above : (n : ℕ) (us : List (Bool × ℕ)) → Rising n us → All (λ u. u .0 ≡ true → n ≤ u .1) us
+    above : (n : ℕ) (us : List (Bool × ℕ)) → Rising n us → All (λ u. u .0 ≡ true → n ≤ row (u .1)) us
     above n [] r = tt
-    above n (u ∷ us) r = ((λ e. omega (arith, ltb→lt n (u .1) (r .0))), weaker us (above (u .1) us (r .1)))
+    above n (u ∷ us) r = ((λ e. omega (arith, ltb→lt n (row (u .1)) (r .0))), weaker us (above (row (u .1)) us (r .1)))
       where
-        weaker : (vs : List (Bool × ℕ)) → All (λ v. v .0 ≡ true → u .1 ≤ v .1) vs → All (λ v. v .0 ≡ true → n ≤ v .1) vs
+        weaker : (vs : List (Bool × ℕ)) → All (λ v. v .0 ≡ true → row (u .1) ≤ row (v .1)) vs → All (λ v. v .0 ≡ true → n ≤ row (v .1)) vs
         weaker [] h = tt
-        weaker (v ∷ vs) h = ((λ e. omega (arith, h .0 e, ltb→lt n (u .1) (r .0))), weaker vs (h .1))
+        weaker (v ∷ vs) h = ((λ e. omega (arith, h .0 e, ltb→lt n (row (u .1)) (r .0))), weaker vs (h .1))
 
--- every call's numbers rise from 3 on
-pub rising : (s : Site) (k : Call) → Rising 2 (tests s k)
-rising s (offer b) = (tt, (tt, (tt, tt)))
+-- every call's rows rise from that of 3 on
+pub rising : (s : Site) (k : Call) → Rising (row 2) (tests s k)
+rising s (offer b) = (tt, (tt, (tt, (tt, tt))))
 rising s (work c) = (tt, (tt, tt))
 rising s (confirm i n) = (tt, (tt, (tt, (tt, tt))))
 rising s (read c k) = (tt, (tt, tt))

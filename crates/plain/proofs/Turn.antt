@@ -3,6 +3,7 @@
 use Prim.Native.Nat.{ℕ, suc, _+_, _-_, _<_}
 use native.Mathlib.Omega.{arith}
 use mathlib.Core.Path.{_≡_, refl, sym, subst}
+use mathlib.Core.Option.{Option, none, some}
 use mathlib.Core.Logic.{_⊎_, inl, inr}
 use mathlib.Core.Bool.{Bool, true, false, cond, _&&_}
 use mathlib.Core.List.{List, [], _∷_}
@@ -17,7 +18,8 @@ use Rattle.plain.specs.Sound.{SoundSite}
 use Rattle.plain.specs.History.{afterFrom, isWork, worksFrom}
 use Rattle.plain.proofs.Tests.{by-test, no}
 use Rattle.plain.proofs.Items.{Lasting}
-use Rattle.plain.proofs.Kept.{work-both, confirm-both, offer-both, call-sound}
+use Rattle.plain.proofs.Accepted.{work-both, confirm-both, offer-both}
+use Rattle.plain.proofs.Kept.{call-sound}
 use Rattle.plain.proofs.Due.{Due, Ends, Others, Nearer, due-positive, ready, same-part, confirm-due, work-due}
 
 -- ON A SITE
@@ -28,8 +30,8 @@ module _ (f : Item → Bool) (n : ℕ) (s : Site) (w : SoundSite s) (c v : ℕ) 
   can-work = rw (lt-leb 16 c l, ready f n c (s .confirmations) (s .class c) v (w .each c l) u)
 
   -- a call that is no accepted work call for the class leaves it
-  others-class : (d more : ℕ) (x : Did) → (d ≡ c → Due (x .class) f n v) → Due (inClass s d more x .site .class c) f n v
-  others-class d more x g =
+  others-class : (d : ℕ) (new : Option ℕ) (x : Did) → (d ≡ c → Due (x .class) f n v) → Due (inClass s d new x .site .class c) f n v
+  others-class d new x g =
       by-test (eqb c d)
       (λ t. rw t (g (sym (eqb-true c d t))))
       (λ t. rw t u)
@@ -38,11 +40,11 @@ module _ (f : Item → Bool) (n : ℕ) (s : Site) (w : SoundSite s) (c v : ℕ) 
   unfolding act offerStep
   keeps-act (offer b) z a =
       let d = requestIn b .class in
-      others-class d 0 (offerStep (requestIn b) (freeSlot s) (s .class d))
+      others-class d none (offerStep (requestIn b) (freeSlot s) (s .class d))
       (λ p. same-part f n (s .class d) _ v (offer-both s w b a .part) (rw p u))
-  keeps-act (work d) z a = others-class d 0 (workStep (s .class d)) (λ p. no _ (eq-eqb d c p) z)
+  keeps-act (work d) z a = others-class d none (workStep (s .class d)) (λ p. no _ (eq-eqb d c p) z)
   keeps-act (confirm j m) z a =
-      others-class (classOf s j) 1 (confirmStep j m (s .class (classOf s j)))
+      others-class (classOf s j) (some j) (confirmStep j m (s .class (classOf s j)))
       (λ p. confirm-due f n j m v (s .class (classOf s j)) _ (confirm-both s w j m a .1) (rw p u))
   keeps-act (read d k) z a = u
   keeps-act (look j) z a = u

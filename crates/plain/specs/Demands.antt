@@ -4,17 +4,17 @@ use mathlib.Core.Path.{_≡_}
 use mathlib.Core.Logic.{_⊎_}
 use mathlib.Core.Bool.{true, false}
 use mathlib.Core.Option.{some}
-use mathlib.Core.List.{List, [], _∷_}
+use mathlib.Core.List.{List, [], _∷_, _++_}
 use lib.ListN.{length, take}
 use Rattle.plain.specs.Ops.{Request, runAll}
 use Rattle.plain.specs.Record.{requestIn}
 use Rattle.plain.specs.Queue.{Entry, isExecuted, isConfirmed, left, entryOf}
 use Rattle.plain.specs.Steps.{Answer, refused, queued, stepped, executed, committed, waiting, value, toDo, unconfirmed}
-use Rattle.plain.specs.Site.{Site, Call, Outcome, offer, work, confirm, read, look, zeros, call, accepts}
-use Rattle.plain.specs.Site.{classOf, isFree, isQueued}
-use Rattle.plain.specs.Sizes.{classCount, slotCount}
+use Rattle.plain.specs.Site.{Site, Call, Outcome, offer, work, confirm, read, look, zeros, call, accepts, refusal}
+use Rattle.plain.specs.Site.{classOf, isFree, isQueued, isKept}
+use Rattle.plain.specs.Sizes.{classCount, slotCount, keptCount}
 use Rattle.plain.specs.Sound.{SoundSite}
-use Rattle.plain.specs.History.{after, afterFrom, worksFrom, confirmedIn, committedIn}
+use Rattle.plain.specs.History.{after, afterFrom, worksFrom, confirmations, confirmedIn, committedIn}
 
 -- DEMAND 2, of class c after a history from fresh: its committed cells are those got by running its committed requests one after another, and
 -- these are the first confirmed ones of the class in definitive order
@@ -66,6 +66,16 @@ pub record Demand3 (c i n : ℕ) (o : Outcome) : Type 0 where
   pub later : 0 < wOf (o .answer) → (h : List Call) → worksFrom (o .site) c h < wOf (o .answer)
       → Waits (afterFrom (o .site) h) c i n (wOf (o .answer)) (worksFrom (o .site) c h)
 
+-- an offer's refusal by its record or by its id
+abbrev pub Turned : ℕ → Type 0
+Turned reason = (reason ≡ 3) ⊎ (reason ≡ 4) ⊎ (reason ≡ 14)
+
+-- KEPT OUT. After a history from fresh in which r was confirmed under n, and then fewer than 256 others: an offer of its id is refused, if not
+-- for its record or because the id is queued, then because the id is kept
+pub record KeptOut (h : List Call) : Type 0 where
+  pub offers-refused : (before behind : List (ℕ × Request)) (n : ℕ) (r : Request) → confirmations h ≡ before ++ (n, r) ∷ behind
+      → length behind < keptCount → (b : List ℕ) → requestIn b .id ≡ r .id → Turned (refusal (after h) (offer b))
+
 -- the class in which a call works
 abbrev pub home : Site → Call → ℕ
 home s (offer b) = requestIn b .class
@@ -74,13 +84,15 @@ home s (confirm i n) = classOf s i
 home s (read c k) = c
 home s (look i) = classOf s i
 
--- What an offer or a confirmation in class c shares with the other classes: sites that agree in class c and in these four things
+-- What an offer or a confirmation in class c shares with the other classes: sites that agree in class c and in these five things
 pub record Shares (s t : Site) (c : ℕ) : Type 0 where
   pub class : s .class c ≡ t .class c
   -- free slots
   pub free : (i : ℕ) → i < slotCount → isFree s i ≡ isFree t i
   -- ids in use
   pub ids : (i : ℕ) → isQueued s i ≡ isQueued t i
+  -- kept ids
+  pub kept : (i : ℕ) → isKept s i ≡ isKept t i
   -- the next number
   pub next : s .confirmations ≡ t .confirmations
   -- soundness

@@ -1,11 +1,11 @@
--- A site: 16 classes and two counts; its calls; document 01's table of refusals; what an accepted call does. Assumes nothing.
-use Prim.Native.Nat.{ℕ, zero, suc, _+_}
+-- A site: 16 classes, two counts and the ids last confirmed; its calls; document 01's table of refusals; what an accepted call does. Assumes nothing.
+use Prim.Native.Nat.{ℕ, zero, suc, _+_, _*_, _-_, _<_, _≤_}
 use mathlib.Core.Bool.{Bool, true, false, not, cond}
 use mathlib.Core.Option.{Option, none, some}
 use mathlib.Core.List.{List, [], _∷_}
 use lib.Dec.{leb, ltb, eqb}
 use lib.ListN.{length, replicate}
-use Rattle.plain.specs.Sizes.{classCount, cellCount, slotCount, lastNumber}
+use Rattle.plain.specs.Sizes.{classCount, cellCount, slotCount, lastNumber, keptCount}
 use Rattle.plain.specs.Ops.{cell}
 use Rattle.plain.specs.Record.{request, requestIn}
 use Rattle.plain.specs.Queue.{Item, slotIs, isConfirmed, count, has, entryOf, owed, asked}
@@ -16,13 +16,15 @@ pub record Site : Type 0 where
   pub class : ℕ → Class
   pub confirmations : ℕ
   pub commits : ℕ
+  -- the id that was confirmed under each number; of these the last 256 are kept
+  pub kept : ℕ → ℕ
 
 abbrev pub zeros : List ℕ
 zeros = replicate cellCount 0
 
 -- FRESH. No request queued, both counts 0, all cells 0
 unfoldable pub fresh : Site
-fresh = record { class = λ c. classWith [] zeros zeros; confirmations = 0; commits = 0 }
+fresh = record { class = λ c. classWith [] zeros zeros; confirmations = 0; commits = 0; kept = λ n. 0 }
 
 -- a call with its arguments: a record's bytes, a class, an id and a number, a class and a cell, an id
 pub data Call : Type 0 where
@@ -70,7 +72,26 @@ freeSlot s = lowest (isFree s) 0 slotCount
 unfoldable pub numberQueued : Site → ℕ
 numberQueued s = sum (λ c. length (asked (s .class c .queue))) classCount
 
--- THE TABLE OF REFUSALS: for each call the tests and the number that each gives, the smallest number first.
+-- number n is among the last 256 of so many confirmations
+pub record Recent (confirmations n : ℕ) : Type 0 where
+  pub given : 0 < n
+  pub within : n ≤ confirmations
+  pub last : confirmations < n + keptCount
+
+-- the first of those numbers, and how many they are
+abbrev pub firstRecent : ℕ → ℕ
+firstRecent confirmations = suc (confirmations - keptCount)
+
+abbrev pub recentCount : ℕ → ℕ
+recentCount confirmations = confirmations - (confirmations - keptCount)
+
+-- is the id kept: was it confirmed under one of the last 256 numbers?
+unfoldable pub isKept : Site → ℕ → Bool
+isKept s i =
+    ltb (lowest (λ n. eqb (s .kept n) i) (firstRecent (s .confirmations)) (recentCount (s .confirmations))) (suc (s .confirmations))
+
+-- THE TABLE OF REFUSALS: for each call the tests and the number that each gives, in the table's order: the smallest number first, but 14 stands
+-- between 4 and 5. So an id may be used again when its request has committed and its number is no longer among the last 256.
 -- Numbers 1 and 2 speak of runs of cells and of soundness, and stand where those are; 13 belongs to the driving program
 abbrev pub missing : {A : Type 0} → Option A → Bool
 missing none = true
@@ -78,7 +99,11 @@ missing (some x) = false
 
 abbrev pub tests : Site → Call → List (Bool × ℕ)
 tests s (offer b) =
-    (missing (request b), 3) ∷ (isQueued s (requestIn b .id), 4) ∷ (leb slotCount (numberQueued s), 5) ∷ []
+    (missing (request b), 3)
+    ∷ (isQueued s (requestIn b .id), 4)
+    ∷ (isKept s (requestIn b .id), 14)
+    ∷ (leb slotCount (numberQueued s), 5)
+    ∷ []
 tests s (work c) = (leb classCount c, 10) ∷ (idle (s .class c .queue), 11) ∷ []
 tests s (confirm i n) =
     (leb lastNumber (s .confirmations), 6)
@@ -88,6 +113,10 @@ tests s (confirm i n) =
     ∷ []
 tests s (read c k) = (leb classCount c, 10) ∷ (leb cellCount k, 12) ∷ []
 tests s (look i) = (not (isQueued s i), 8) ∷ []
+
+-- a number's row in the table: 14 stands between 4 and 5
+abbrev pub row : ℕ → ℕ
+row n = cond (eqb n 14) 9 (2 * n)
 
 -- the first of the tests that holds gives its number; 0 if none does
 abbrev pub first : List (Bool × ℕ) → ℕ
@@ -120,16 +149,26 @@ commitOf unconfirmed = none
 abbrev pub commitsBy : Answer → ℕ
 commitsBy a = elim (commitOf a) [ none ↦ 0 | some i ↦ 1 ]
 
--- a step in one class, with so many confirmations more
+-- how many confirmations a step brings that gives the next number to an id, or to none; and the ids by number then
+abbrev pub given : Option ℕ → ℕ
+given none = 0
+given (some i) = 1
+
+abbrev pub keptWith : Option ℕ → ℕ → (ℕ → ℕ) → ℕ → ℕ
+keptWith none n f m = f m
+keptWith (some i) n f m = cond (eqb m n) i (f m)
+
+-- a step in one class that gives the next number to an id, or to none
 abbrev pub atClass : ℕ → Class → (ℕ → Class) → ℕ → Class
 atClass c k f d = cond (eqb d c) k (f d)
 
-abbrev pub inClass : Site → ℕ → ℕ → Did → Outcome
-inClass s c more d = record {
+abbrev pub inClass : Site → ℕ → Option ℕ → Did → Outcome
+inClass s c new d = record {
   site = record {
     class = atClass c (d .class) (s .class);
-    confirmations = s .confirmations + more;
+    confirmations = s .confirmations + given new;
     commits = s .commits + commitsBy (d .answer);
+    kept = keptWith new (suc (s .confirmations)) (s .kept);
   };
   answer = d .answer;
 }
@@ -141,9 +180,9 @@ lookAnswer i k = cond (confirmedAt (entryOf i (k .queue))) (toDo (owed i (k .que
 -- what an accepted call does
 unfoldable pub act : Site → Call → Outcome
 act s (offer b) =
-    inClass s (requestIn b .class) 0 (offerStep (requestIn b) (freeSlot s) (s .class (requestIn b .class)))
-act s (work c) = inClass s c 0 (workStep (s .class c))
-act s (confirm i n) = inClass s (classOf s i) 1 (confirmStep i n (s .class (classOf s i)))
+    inClass s (requestIn b .class) none (offerStep (requestIn b) (freeSlot s) (s .class (requestIn b .class)))
+act s (work c) = inClass s c none (workStep (s .class c))
+act s (confirm i n) = inClass s (classOf s i) (some i) (confirmStep i n (s .class (classOf s i)))
 act s (read c k) = record { site = s; answer = value (cell (s .class c .committed) k) }
 act s (look i) = record { site = s; answer = lookAnswer i (s .class (classOf s i)) }
 

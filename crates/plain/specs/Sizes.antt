@@ -35,6 +35,10 @@ opSize = 8
 abbrev pub firstOp : ℕ
 firstOp = 8
 
+-- a site keeps the ids of its last 256 confirmations
+abbrev pub keptCount : ℕ
+keptCount = 256
+
 -- W is at most 128 requests of 7 operations
 abbrev pub mostW : ℕ
 mostW = 896

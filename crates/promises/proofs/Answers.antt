@@ -80,21 +80,21 @@ pub number-answer : (s : Site) (k : Call) (n : ℕ) → 0 < n → refusal s k �
 number-answer s k n l e =
     refused-answers s k (ne-eqb (refusal s k) 0 (λ z. omega arith)) ∙ ap refused e
 
--- the table's numbers are 3 to 12
-abbrev Small : ℕ → Type 0
-Small m = (3 ≤ m) × (m ≤ 12)
+-- the table's numbers are 3 to 12, and 14
+abbrev Listed : ℕ → Type 0
+Listed m = (3 ≤ m) × (m ≤ 14) × (m ≡ 13 → ⊥)
 
-first-small : (ts : List (Bool × ℕ)) → All (λ t. Small (t .1)) ts → 0 < first ts → Small (first ts)
-first-small [] h = λ l. absurd (omega arith)
-first-small (t ∷ ts) h = by-test (t .0) (λ y. rw y (λ l. h .0)) (λ f. rw f (first-small ts (h .1)))
+first-listed : (ts : List (Bool × ℕ)) → All (λ t. Listed (t .1)) ts → 0 < first ts → Listed (first ts)
+first-listed [] h = λ l. absurd (omega arith)
+first-listed (t ∷ ts) h = by-test (t .0) (λ y. rw y (λ l. h .0)) (λ f. rw f (first-listed ts (h .1)))
 
-all-small : (s : Site) (k : Call) → All (λ t. Small (t .1)) (tests s k)
-all-small s (offer b) = omega arith
-all-small s (work c) = omega arith
-all-small s (confirm i n) = omega arith
-all-small s (read c k) = omega arith
-all-small s (look i) = omega arith
+all-listed : (s : Site) (k : Call) → All (λ t. Listed (t .1)) (tests s k)
+all-listed s (offer b) = omega arith
+all-listed s (work c) = omega arith
+all-listed s (confirm i n) = omega arith
+all-listed s (read c k) = omega arith
+all-listed s (look i) = omega arith
 
-pub three-to-twelve : (s : Site) (k : Call) → 0 < refusal s k → Small (refusal s k)
+pub in-table : (s : Site) (k : Call) → 0 < refusal s k → Listed (refusal s k)
 unfolding refusal
-three-to-twelve s k = first-small (tests s k) (all-small s k)
+in-table s k = first-listed (tests s k) (all-listed s k)

@@ -10,32 +10,32 @@ use lib.ListN.{length}
 use borrow.Author.Tests.{ne-eqb}
 use Rattle.plain.specs.Steps.{Answer, refused}
 use Rattle.plain.specs.Site as P
-use Rattle.plain.specs.Site.{Call, call, accepts, refusal, tests}
+use Rattle.plain.specs.Site.{Call, call, accepts, refusal, row, tests}
 use Rattle.plain.specs.Sound.{All}
-use Rattle.plain.proofs.Table.{smallest, rising, refused-same}
+use Rattle.plain.proofs.Table.{in-order, rising, refused-same}
 use Rattle.store.specs.Store.{Store}
 use Rattle.store.specs.Meaning.{Same}
 use Rattle.store.specs.Calls.{State, RightCells, SoundState, Did, Started, plainOf}
 use Rattle.store.proofs.Promise.{one-outcome, called-did}
 use Rattle.promises.specs.Runs.{Happens, Ready}
 use Rattle.promises.specs.Demands.{Demand1}
-use Rattle.promises.proofs.Answers.{answer-number, number-answer, same-number, three-to-twelve}
+use Rattle.promises.proofs.Answers.{answer-number, number-answer, same-number, in-table}
 use Rattle.promises.proofs.Stands.{by-contract}
 
 -- the number that is given on a sound site is the table's
 module _ {x y : State} {k : Call} {a : Answer} (d : Did x k y a) where
-  given : (n : ℕ) → a ≡ refused n → (refusal (plainOf x) k ≡ n) × (3 ≤ n) × (n ≤ 12)
+  given : (n : ℕ) → a ≡ refused n → (refusal (plainOf x) k ≡ n) × (3 ≤ n) × (n ≤ 14) × (n ≡ 13 → ⊥)
   given n e =
       let r = answer-number (plainOf x) k n (sym (d .answer) ∙ e) in
-      let t = three-to-twelve (plainOf x) k (omega (arith, r .0, r .1)) in
-      (r .1, omega (arith, r .1, t .0), omega (arith, r .1, t .1))
+      let t = in-table (plainOf x) k (omega (arith, r .0, r .1)) in
+      (r .1, omega (arith, r .1, t .0), omega (arith, r .1, t .1), (λ z. t .2 (r .1 ∙ z)))
 
-  least : (n : ℕ) → a ≡ refused n → All (λ t. t .0 ≡ true → n ≤ t .1) (tests (plainOf x) k)
-  least n e = rw (← given n e .0) (unfold refusal in (smallest 2 (tests (plainOf x) k) (rising (plainOf x) k)))
+  first-row : (n : ℕ) → a ≡ refused n → All (λ t. t .0 ≡ true → row n ≤ row (t .1)) (tests (plainOf x) k)
+  first-row n e = rw (← given n e .0) (unfold refusal in (in-order (row 2) (tests (plainOf x) k) (rising (plainOf x) k)))
 
 -- a refused plain call leaves the plain site, and so the site
 same-left : (s : P.Site) (k : Call) → accepts s k ≡ false → Same s (call s k .site)
-same-left s k f = rw (refused-same s k f) (record { class = λ c l. refl; confirmations = refl; commits = refl })
+same-left s k f = rw (refused-same s k f) (record { class = λ c l. refl; confirmations = refl; commits = refl; kept = λ n r. refl })
 
 nothing-touched : {x y : State} {k : Call} {a : Answer} → Happens x k y a → (n : ℕ) → a ≡ refused n → y ≡ x
 nothing-touched {x} {y} {k} {a} e n q =
@@ -51,8 +51,8 @@ demand-1 {x} {y} {k} {a} e = record {
   cells = (not-one, (λ n. e .called .wrong-cells n .answer));
   sound = λ r. ((λ q s. let g = given (did (r, s)) 2 q in omega (arith, g .1)), (λ n. e .called .unsound r n .answer));
   table = λ r n l. ((λ q. given (did r) n q .0), (λ q. did r .answer ∙ number-answer (plainOf x) k n l q));
-  numbers = λ r n q. let g = given (did r) n q in (g .1, g .2);
-  smallest = λ r n q. least (did r) n q;
+  numbers = λ r n q. let g = given (did r) n q in (g .1, g .2, g .3);
+  in-order = λ r n q. first-row (did r) n q;
   untouched = λ n q. nothing-touched e n q;
 }
   where

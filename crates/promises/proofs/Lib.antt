@@ -7,5 +7,6 @@ pub mod Demand3
 pub mod Slots
 pub mod Unique
 pub mod Kept
+pub mod KeptOut
 pub mod Local
 pub mod Promises

@@ -6,6 +6,7 @@ use Rattle.promises.proofs.Demand3 as Three
 use Rattle.promises.proofs.Slots as S
 use Rattle.promises.proofs.Unique as U
 use Rattle.promises.proofs.Kept as K
+use Rattle.promises.proofs.KeptOut as O
 use Rattle.promises.proofs.Local as L
 
 pub promises : Promises
@@ -19,6 +20,7 @@ promises = record {
   demand-3 = Three.demand-3;
   keeps-slot = S.keeps-slot;
   free-slot = S.free-slot;
+  kept-out = O.kept-out;
   fresh-ready = K.fresh-ready;
   stays-sound = K.stays-sound;
   stays-right = K.stays-right;

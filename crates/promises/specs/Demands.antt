@@ -8,7 +8,7 @@ use lib.ListN.{length, take}
 use Rattle.plain.specs.Ops.{Request, runAll}
 use Rattle.plain.specs.Record.{requestIn}
 use Rattle.plain.specs.Steps.{Answer, refused, queued, toDo}
-use Rattle.plain.specs.Site.{Call, work, look, zeros, classOf, tests, refusal}
+use Rattle.plain.specs.Site.{Call, work, look, zeros, classOf, tests, row, refusal}
 use Rattle.plain.specs.Sound.{All}
 use Rattle.plain.specs.History.{confirmations, confirmedIn, committedIn}
 use Rattle.plain.specs.Demands.{Commits, Counted, wOf, Keeps, Frees, Gives}
@@ -22,10 +22,10 @@ pub record Demand1 (x : State) (k : Call) (y : State) (a : Answer) : Type 0 wher
   pub cells : (a ≡ refused 1) ↔ (RightCells x → ⊥)
   -- else 2 exactly when the site is not sound
   pub sound : RightCells x → (a ≡ refused 2) ↔ (SoundState x → ⊥)
-  -- else n, from 3 to 12, exactly when the table gives it, and where several apply the smallest
+  -- else n, from 3 to 12 or 14, exactly when the table gives it, and where several apply the first in the table
   pub table : Ready x → (n : ℕ) → 0 < n → (a ≡ refused n) ↔ (refusal (plainOf x) k ≡ n)
-  pub numbers : Ready x → (n : ℕ) → a ≡ refused n → (3 ≤ n) × (n ≤ 12)
-  pub smallest : Ready x → (n : ℕ) → a ≡ refused n → All (λ t. t .0 ≡ true → n ≤ t .1) (tests (plainOf x) k)
+  pub numbers : Ready x → (n : ℕ) → a ≡ refused n → (3 ≤ n) × (n ≤ 14) × (n ≡ 13 → ⊥)
+  pub in-order : Ready x → (n : ℕ) → a ≡ refused n → All (λ t. t .0 ≡ true → row n ≤ row (t .1)) (tests (plainOf x) k)
   -- no slot, no queue, no cell
   pub untouched : (n : ℕ) → a ≡ refused n → y ≡ x
 
@@ -35,6 +35,10 @@ pub record Demand2 (h : List Call) (y : State) (c : ℕ) : Type 0 where
   pub serial : cellsOf (y .committed) c ≡ runAll zeros (committedIn c h)
   pub first-confirmed : committedIn c h ≡ take (length (committedIn c h)) (confirmedIn c h)
   pub counted : Counted 0 (confirmations h)
+
+-- KEPT OUT, of an offer that answered a: it was refused, for its record, because its id is queued, or because its id is kept
+abbrev pub KeptOut : Answer → Type 0
+KeptOut a = (a ≡ refused 3) ⊎ (a ≡ refused 4) ⊎ (a ≡ refused 14)
 
 -- What holds after x accepted work calls for class c, of the W that the confirmation of i under n answered, while x is less than W
 pub record Waits (z : State) (c i n W x : ℕ) : Type 0 where

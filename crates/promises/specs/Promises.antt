@@ -3,9 +3,9 @@ use Prim.Native.Nat.{ℕ, _+_, _<_, _≤_}
 use mathlib.Core.Path.{_≡_}
 use mathlib.Core.Logic.{_↔_}
 use mathlib.Core.Bool.{Bool, true, not}
-use mathlib.Core.List.{List}
+use mathlib.Core.List.{List, _∷_, _++_}
 use lib.ListN.{length}
-use Rattle.plain.specs.Sizes.{classCount, slotCount, mostW}
+use Rattle.plain.specs.Sizes.{classCount, slotCount, keptCount, mostW}
 use Rattle.plain.specs.Ops.{Request}
 use Rattle.plain.specs.Record.{requestIn}
 use Rattle.plain.specs.Queue.{count, has}
@@ -18,7 +18,7 @@ use Rattle.store.specs.Store.{Store, runSize}
 use Rattle.store.specs.Meaning.{cellsOf}
 use Rattle.store.specs.Calls.{State, RightCells, SoundState, Started, plainOf}
 use Rattle.promises.specs.Runs.{Happens, Ready, Accepted, Run, FromFresh}
-use Rattle.promises.specs.Demands.{Demand1, Demand2, Demand3, KeepsSlot}
+use Rattle.promises.specs.Demands.{Demand1, Demand2, Demand3, KeepsSlot, KeptOut}
 
 -- two sites agree in class c: in its queue, its slots' numbers and contents, and its cells
 abbrev pub Agree : State → State → ℕ → Type 0
@@ -47,6 +47,10 @@ pub record Promises : Type 0 where
   pub keeps-slot : {x y : State} {b : List ℕ} {a : Answer} → Happens x (offer b) y a → Accepted a → KeepsSlot b y a
   pub free-slot : {x y : State} {k : Call} {a : Answer} → Happens x k y a → SoundState x → (j : ℕ) → j < slotCount
       → isFree (plainOf x) j ≡ not (isUsed (slotAt (x .site .slots) j))
+  -- KEPT IDS. From fresh, over any calls, an id that was confirmed under number n is refused by every offer until 256 more confirmations were accepted
+  pub kept-out : {h : List Call} {y z : State} {b : List ℕ} {a : Answer} → FromFresh h y → Happens y (offer b) z a
+      → (before behind : List (ℕ × Request)) (n : ℕ) (r : Request) → confirmations h ≡ before ++ (n, r) ∷ behind → length behind < keptCount
+      → requestIn b .id ≡ r .id → KeptOut a
   -- SOUND SITES. A fresh site is sound, and every call leaves a sound site sound, and its cells right
   pub fresh-ready : {base wrk base′ wrk′ : List ℕ} {t : Store} → Started base wrk t 0 base′ wrk′
       → Ready (record { site = t; committed = base′; working = wrk′ })
@@ -61,7 +65,7 @@ pub record Promises : Type 0 where
   -- ONE CLASS ALONE. On sites that agree in a class, work and read for it answer alike and change it alike
   pub work-alike : {x x′ : State} {c : ℕ} → Ready x → Ready x′ → c < classCount → Agree x x′ c → Alike x x′ c (work c)
   pub read-alike : {x x′ : State} {c k : ℕ} → Ready x → Ready x′ → c < classCount → Agree x x′ c → Alike x x′ c (read c k)
-  -- an offer or confirm shares four things with other classes; an id confirmed is queued in this one or nowhere
+  -- an offer or confirm shares five things with other classes; an id confirmed is queued in this one or nowhere
   pub offer-alike : {x x′ : State} {b : List ℕ} {c : ℕ} → Ready x → Ready x′ → c < classCount → Shares (plainOf x) (plainOf x′) c
       → requestIn b .class ≡ c → Alike x x′ c (offer b)
   pub confirm-alike : {x x′ : State} {i n c : ℕ} → Ready x → Ready x′ → c < classCount → Shares (plainOf x) (plainOf x′) c

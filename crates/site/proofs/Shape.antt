@@ -38,4 +38,5 @@ shaped s vs g =
       lens = sym (length-map (s .lens) _) ∙ g .1 .1 .1 .1 .0 .1 .0 .1;
       low = g .1 .1 .1 .1 .1 .0 .1;
       high = g .1 .1 .1 .1 .1 .1 .0 .1;
+      kept = sym (length-map (s .kept) _) ∙ g .1 .1 .1 .1 .1 .1 .1 .1 .1 .0 .1 .0 .1;
     }

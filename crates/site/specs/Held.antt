@@ -28,6 +28,7 @@ store s = record {
   high = s .high;
   confirmations = s .confirmations;
   commits = s .commits;
+  kept = s .kept;
 }
 
 -- a site with its two runs of cells

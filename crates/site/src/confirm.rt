@@ -12,6 +12,7 @@ use crate::Answer;
 use crate::Reply;
 use crate::SLOTS;
 use crate::Site;
+use kept::KEPT;
 
 impl Site {
     // The place in class c's queue at which slot i stands.
@@ -62,7 +63,7 @@ impl Site {
         self
     }
 
-    // Slot i has the next number, and one confirmation more is counted.
+    // Slot i has the next number, its id is kept under it, and one confirmation more is counted.
     fn numbered(mut self, i: usize) -> Self
         requires { ⌜ (i < 128) × (self .confirmations < 4294967295) ⌝ }
         ensures { λ r. ⌜ store r ≡ numberedStore (store self) i (self .confirmations + 1) ⌝ }
@@ -72,6 +73,7 @@ impl Site {
         let mut v = self.slots[i];
         v.number = n;
         self.slots[i] = v;
+        self.kept[(n as usize) % KEPT] = v.id;
         self
     }
 

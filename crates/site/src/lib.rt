@@ -22,6 +22,8 @@ use checks::numbered;
 use checks::pairs_differ;
 use checks::slots_ok;
 use checks::tails_zero;
+use kept::KEPT;
+use kept::kept_ok;
 use slots::Slot;
 use slots::free_slot;
 
@@ -42,6 +44,7 @@ pub struct Site {
     pub high: u64,
     pub confirmations: u32,
     pub commits: u32,
+    pub kept: [u32; KEPT],
 }
 
 // What a call answers; document 01's number and values for each case are in specs/Held.
@@ -102,6 +105,7 @@ impl Site {
             high: 0,
             confirmations: 0,
             commits: 0,
+            kept: [0; KEPT],
         };
         if committed.len() != RUN {
             return Fresh {
@@ -158,7 +162,11 @@ impl Site {
         if self.confirmations - self.commits != numbered(slots) {
             return false;
         }
-        cells_ok(slots, queue, lens, committed, working)
+        if !cells_ok(slots, queue, lens, committed, working) {
+            return false;
+        }
+        let kept = self.kept;
+        kept_ok(slots, &kept, self.confirmations)
     }
 
     // The refusal that every call begins with: 1 for wrong cells, 2 for an unsound site, 0 for neither.

@@ -9,6 +9,8 @@ use crate::Answer;
 use crate::Reply;
 use crate::SLOTS;
 use crate::Site;
+use kept::KEPT;
+use kept::among;
 use slots::Slot;
 use slots::decode::read_record;
 use usedmap::UsedMap;
@@ -57,6 +59,13 @@ impl Site {
                 answer: Answer::Refused(4),
             };
         }
+        let kept = self.kept;
+        if among(&kept, KEPT, id) {
+            return Reply {
+                site: self,
+                answer: Answer::Refused(14),
+            };
+        }
         let map = UsedMap {
             lo: self.low,
             hi: self.high,
@@ -82,7 +91,7 @@ impl Site {
         }
     }
 
-    // Queues the request of a record and answers id, class, place (1 is the head) and slot; or refuses with 1, 2, 3, 4 or 5.
+    // Queues the request of a record and answers id, class, place (1 is the head) and slot; or refuses with 1, 2, 3, 4, 14 or 5.
     pub fn offer(mut self, committed: &[u32], working: &[u32], bytes: &[u8]) -> Reply
         ensures { λ r. ⌜ Called (stateOf self (now (committed .entry)) (now (working .entry))) (offer (now (bytes .entry))) (stateOf (r .site) (now (committed .entry)) (now (working .entry))) (answerOf (r .answer)) ⌝ }
     {

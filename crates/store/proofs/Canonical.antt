@@ -6,7 +6,7 @@ use mathlib.Core.Logic.{_⊎_, inl, inr}
 use mathlib.Core.Bool.{true}
 use mathlib.Core.List.{List, [], _∷_, _++_, map}
 use lib.Dec.{eqb}
-use lib.ListN.{length, take, drop, replicate, length-map, length-drop, take-append-drop}
+use lib.ListN.{getD, length, take, drop, replicate, length-map, length-drop, take-append-drop}
 use lib.Seq.{ext-getD, length-take-le}
 use borrow.Author.Tests.{eqb-true, eqb-false, eq-eqb, ne-eqb, not-true, ltb-true, leb-true}
 use Rattle.plain.specs.Ops as P
@@ -22,7 +22,9 @@ use Rattle.slots.specs.Meaning.{entryOf, freeSlot, isUsed, noSlot, requestOf, s
 use Rattle.slots.specs.Rules.{Holds}
 use Rattle.slots.specs.declared.Slot.{Slot}
 use Rattle.store.proofs.Lists.{by-parts, map-at}
+use Rattle.store.specs.Checks.{InUse, Spare}
 use Rattle.store.specs.Meaning.{Same, entries, lenOf, places, plain, plainClass}
+use Rattle.store.proofs.KeptIds.{place-of}
 use Rattle.store.specs.Sound.{Laid, stands, times}
 use Rattle.store.specs.Store.{Shaped, Store}
 use Rattle.usedmap.proofs.Flags.{used-inj}
@@ -171,6 +173,18 @@ module _ (s t : Store) (base wrk base′ wrk′ : List ℕ) (v : Shaped s) (w : 
   same-map : (s .low ≡ t .low) × (s .high ≡ t .high)
   same-map = used-inj (s .low) (s .high) (t .low) (t .high) (v .low) (v .high) (w .low) (w .high) (g .map-agrees ∙ ap (map isUsed) same-slots ∙ sym (h .map-agrees))
 
+  -- the place of a number kept, and one that is unused
+  same-kept-at : (p : ℕ) → p < 256 → getD (s .kept) p 0 ≡ getD (t .kept) p 0
+  unfolding plain
+  same-kept-at p l = go (place-of (s .confirmations) p l)
+    where
+      go : InUse (s .confirmations) p ⊎ Spare (s .confirmations) p → getD (s .kept) p 0 ≡ getD (t .kept) p 0
+      go (inl u) = rw (← u .2) (e .kept (u .0) (u .1))
+      go (inr u) = rw (← u .3) (g .unused-zero (u .0) (u .1) (u .2) ∙ sym (h .unused-zero (u .0) (omega (arith, u .1, e .confirmations)) (u .2)))
+
+  same-kept : s .kept ≡ t .kept
+  same-kept = ext-getD 0 (s .kept) (t .kept) (omega (arith, v .kept, w .kept)) (λ p l. same-kept-at p (omega (arith, v .kept)))
+
   pub canonical : s ≡ t
   unfolding plain
   canonical = λ i. record {
@@ -181,6 +195,7 @@ module _ (s t : Store) (base wrk base′ wrk′ : List ℕ) (v : Shaped s) (w : 
     high = same-map .1 i;
     confirmations = e .confirmations i;
     commits = e .commits i;
+    kept = same-kept i;
   }
 
   -- and the cells

@@ -4,6 +4,7 @@ use native.Mathlib.Omega.{arith}
 use mathlib.Core.Path.{_≡_, refl, sym, ap, _∙_}
 use mathlib.Core.Logic.{_⊎_, inl, inr}
 use mathlib.Core.Bool.{Bool, true, false, cond, _&&_}
+use mathlib.Core.Option.{none}
 use mathlib.Core.List.{List, _∷_, _++_}
 use lib.Dec.{eqb, ltb}
 use lib.ListN.{length, getD, drop, set, replicate, length-drop, List·getD-eq-default}
@@ -43,7 +44,7 @@ stands-class c v n e =
 module _ (s t : Store) (w : Shaped s) (h : Laid s) (c i : ℕ) (ps : List ℕ) (l : c < 16) (head : places s c ≡ i ∷ ps)
     (slots : t .slots ≡ set (s .slots) i freeSlot) (lens : t .lens ≡ set (s .lens) c (lenOf s c - 1))
     (own : part (t .queue) c ≡ firstOff (part (s .queue) c) (lenOf s c)) (others : (d : ℕ) → (d ≡ c → ⊥) → part (t .queue) d ≡ part (s .queue) d)
-    (marked : usedOf (t .low) (t .high) ≡ set (usedOf (s .low) (s .high)) i false) where
+    (marked : usedOf (t .low) (t .high) ≡ set (usedOf (s .low) (s .high)) i false) (conf : t .confirmations ≡ s .confirmations) (ids : t .kept ≡ s .kept) where
   long : lenOf s c ≡ suc (length ps)
   long = sym (places-length s w h c l) ∙ ap length head
 
@@ -93,15 +94,15 @@ module _ (s t : Store) (w : Shaped s) (h : Laid s) (c i : ℕ) (ps : List ℕ) (
   }
 
   pub commit-laid : Laid t
-  commit-laid = relaid s t c ps queued h slotted
+  commit-laid = relaid s t c ps queued h slotted (λ n l k. rw ids (h .unused-zero n (rw conf at l) k))
 
   module _ (base wrk base′ : List ℕ) (cells : cellsOf base′ c ≡ cellsOf wrk c) (kept : (d : ℕ) → (d ≡ c → ⊥) → cellsOf base′ d ≡ cellsOf base d)
-      (more : ℕ) (e : Q.Entry) (conf : t .confirmations ≡ s .confirmations + more) (done : t .commits ≡ s .commits + 1) where
-    pub commit-means : Same (plain t base′ wrk) (S.inClass (plain s base wrk) c more (K.commit e (entries (s .slots) ps) (cellsOf wrk c)) .site)
-    commit-means = means s t c ps queued base wrk base′ wrk more (K.commit e (entries (s .slots) ps) (cellsOf wrk c))
+      (e : Q.Entry) (done : t .commits ≡ s .commits + 1) where
+    pub commit-means : Same (plain t base′ wrk) (S.inClass (plain s base wrk) c none (K.commit e (entries (s .slots) ps) (cellsOf wrk c)) .site)
+    commit-means = means s t c ps queued base wrk base′ wrk none (K.commit e (entries (s .slots) ps) (cellsOf wrk c))
         (rw slots (entries-kept (s .slots) i freeSlot inside ps gone)) cells refl
         (λ d k ne. rw slots (entries-kept (s .slots) i freeSlot inside (places s d) (h .exactly-once d i k ∙ nowhere-else d ne)))
-        (λ d k ne. (kept d ne, refl)) conf done
+        (λ d k ne. (kept d ne, refl)) (omega (arith, conf)) done (λ n r. rw ids)
 
 -- the head of a queue that has one
 module _ (s : Store) (w : Shaped s) (h : Laid s) (c : ℕ) (l : c < 16) (some : 0 < lenOf s c) where

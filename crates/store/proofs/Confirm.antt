@@ -20,7 +20,7 @@ use Rattle.store.proofs.Lists.{times-append}
 use Rattle.store.proofs.Moving.{Confirmed, moved-is, times-moved}
 use Rattle.store.proofs.Relaid.{Queued, at-stored, entries-kept, relaid}
 use Rattle.store.specs.Meaning.{entries, places}
-use Rattle.store.specs.Sound.{Laid, stands, times}
+use Rattle.store.specs.Sound.{Laid, stands, times, Unused}
 use Rattle.store.specs.Steps.{withNumber, asPutBack}
 use Rattle.store.specs.Store.{Shaped, Store}
 use Rattle.usedmap.specs.Flags.{usedOf}
@@ -64,14 +64,14 @@ module _ (s t : Store) (w : Shaped s) (h : Laid s) (c from to : ℕ) (l : c < 16
     (q : Queued s t c (movedUp (getD (places s c) from 0) (places s c) from to))
     (kept : (j : ℕ) → (slotAt (t .slots) j .id ≡ slotAt (s .slots) j .id) × (slotAt (t .slots) j .class ≡ slotAt (s .slots) j .class))
     (valid : (j : ℕ) → j < 128 → (slotAt (t .slots) j ≡ freeSlot) ⊎ Holds (slotAt (t .slots) j))
-    (map′ : usedOf (t .low) (t .high) ≡ usedOf (s .low) (s .high)) (flags : map isUsed (t .slots) ≡ map isUsed (s .slots)) where
+    (map′ : usedOf (t .low) (t .high) ≡ usedOf (s .low) (s .high)) (flags : map isUsed (t .slots) ≡ map isUsed (s .slots)) (unused : Unused t) where
   pub confirm-laid : Laid t
   confirm-laid = relaid s t c (movedUp (getD (places s c) from 0) (places s c) from to) q h (record {
     slots = valid;
     own = λ j. times-moved j (places s c) from to m k ∙ h .exactly-once c j l ∙ sym (same c j);
     others = λ d j _ ne. same d j;
     used = map′ ∙ h .map-agrees ∙ sym flags;
-  })
+  }) unused
     where
       same : (d j : ℕ) → stands d (slotAt (t .slots) j) ≡ stands d (slotAt (s .slots) j)
       same d j = rw (kept j .0, kept j .1)

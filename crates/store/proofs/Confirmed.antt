@@ -5,6 +5,7 @@ use native.Mathlib.Omega.{arith}
 use mathlib.Core.Path.{_≡_, refl, sym, ap, _∙_, subst}
 use mathlib.Core.Logic.{inl, inr}
 use mathlib.Core.Bool.{false, not, and-false}
+use mathlib.Core.Option.{some}
 use mathlib.Core.List.{List, [], _∷_}
 use lib.Dec.{eqb, ltb}
 use lib.ListN.{length, getD, take, drop, length-set}
@@ -59,6 +60,7 @@ kept-shaped s w i u m n e = record {
   lens = w .lens;
   low = w .low;
   high = w .high;
+  kept = w .kept;
 }
   where
     inside : i < length (s .slots)
@@ -149,7 +151,7 @@ module _ (x : State) (w : Shaped (x .site)) (r : RightCells x) (q : SoundState x
   other-id ne = ne-eqb (u .id) id (λ e.
       ne (one-id (λ j. slotAt (s .slots) j .id) (q .ids-differ) hd i hd-small (f .small) (has-id u hd-holds) (e ∙ sym (f .is))))
 
-  called : S.call p k ≡ S.inClass p c 1 (K.confirmStep id n (p .class c))
+  called : S.call p k ≡ S.inClass p c (some id) (K.confirmStep id n (p .class c))
   called = outcome x w r q id n (f .more) (f .next) i (f .small) (f .is) (f .positive) (f .waits)
 
   -- what is answered once the step is known, and the site that it leaves is sound
@@ -160,7 +162,7 @@ module _ (x : State) (w : Shaped (x .site)) (r : RightCells x) (q : SoundState x
 
   goes : (t : Store) (wrk′ : List ℕ) (back : ℕ) (queue : List Q.Entry) → length wrk′ ≡ 1024 → length (t .slots) ≡ 128 → slotAt (t .slots) i .id ≡ id → Laid t
       → K.confirmStep id n (p .class c) ≡ K.told id back queue (cellsOf base c) (cellsOf wrk′ c)
-      → queueOf t c ≡ queue → Same (plain t base wrk′) (S.inClass p c 1 (K.told id back queue (cellsOf base c) (cellsOf wrk′ c)) .site)
+      → queueOf t c ≡ queue → Same (plain t base wrk′) (S.inClass p c (some id) (K.told id back queue (cellsOf base c) (cellsOf wrk′ c)) .site)
       → Goes t wrk′ back
   goes t wrk′ back queue n′ m kept-id h step is same = record {
     sound = snd;
@@ -173,8 +175,8 @@ module _ (x : State) (w : Shaped (x .site)) (r : RightCells x) (q : SoundState x
     };
   }
     where
-      o : S.call p k ≡ S.inClass p c 1 (K.told id back queue (cellsOf base c) (cellsOf wrk′ c))
-      o = called ∙ ap (S.inClass p c 1) step
+      o : S.call p k ≡ S.inClass p c (some id) (K.told id back queue (cellsOf base c) (cellsOf wrk′ c))
+      o = called ∙ ap (S.inClass p c (some id)) step
 
       snd : SoundState (record { site = t; committed = base; working = wrk′ })
       snd = sound-kept x (record { site = t; committed = base; working = wrk′ }) k w m q h (rw o same)
@@ -184,11 +186,11 @@ module _ (x : State) (w : Shaped (x .site)) (r : RightCells x) (q : SoundState x
     moves : K.confirmStep id n (p .class c) ≡ K.told id 0 (K.moved id n (queueOf s c)) (cellsOf base c) (cellsOf wrk c) → Goes t wrk 0
     moves step =
         goes t wrk 0 (K.moved id n (queueOf s c)) (r .1) (ap length (d .slots) ∙ length-set (s .slots) i _ ∙ w .slots)
-        (kept s t w (q .laid) c i n from to class-small refl holds (f .place) forward d i .0 ∙ f .is)
-        (forward-laid s t w (q .laid) c i n from to class-small refl holds (f .place) forward d) step
-        (forward-queue s t w (q .laid) c i n from to class-small refl holds (f .place) forward d (q .ids-differ) (parts .0) (parts .1) ∙ ap (λ (z : ℕ). K.moved z n (queueOf s c)) (f .is))
-        (subst (λ (z : ℕ). Same (plain t base wrk) (S.inClass p c 1 (K.told z 0 (K.moved z n (queueOf s c)) (cellsOf base c) (cellsOf wrk c)) .site)) (f .is)
-        (forward-means s t w (q .laid) c i n from to class-small refl holds (f .place) forward d (q .ids-differ) (parts .0) (parts .1) base wrk 0))
+        (kept s t w (q .laid) c i n from to class-small refl holds (f .place) forward (f .next) d i .0 ∙ f .is)
+        (forward-laid s t w (q .laid) c i n from to class-small refl holds (f .place) forward (f .next) d) step
+        (forward-queue s t w (q .laid) c i n from to class-small refl holds (f .place) forward (f .next) d (q .ids-differ) (parts .0) (parts .1) ∙ ap (λ (z : ℕ). K.moved z n (queueOf s c)) (f .is))
+        (subst (λ (z : ℕ). Same (plain t base wrk) (S.inClass p c (some z) (K.told z 0 (K.moved z n (queueOf s c)) (cellsOf base c) (cellsOf wrk c)) .site)) (f .is)
+        (forward-means s t w (q .laid) c i n from to class-small refl holds (f .place) forward (f .next) d (q .ids-differ) (parts .0) (parts .1) base wrk 0))
 
     pub itself : hd ≡ i → v .done < v .count → Goes t wrk 0
     unfolding K.confirmStep plain plainClass
@@ -288,23 +290,23 @@ module _ (x : State) (w : Shaped (x .site)) (r : RightCells x) (q : SoundState x
       told₁ : K.Did
       told₁ = K.told id (u .id) (K.moved id n (queueOf a₁ c)) (cellsOf base c) (cellsOf wrk′ c)
 
-      means₁ : Same (plain t base wrk′) (S.inClass (plain a₁ base wrk′) c 1 told₁ .site)
+      means₁ : Same (plain t base wrk′) (S.inClass (plain a₁ base wrk′) c (some id) told₁ .site)
       unfolding told₁
-      means₁ = subst (λ (z : ℕ). Same (plain t base wrk′) (S.inClass (plain a₁ base wrk′) c 1 (K.told z (u .id) (K.moved z n (queueOf a₁ c)) (cellsOf base c) (cellsOf wrk′ c)) .site)) is₁
-          (forward-means a₁ t shaped₁ laid₁ c i n from to class-small own₁ holds₁ place₁ forward d ids₁ (parts₁ .0) (parts₁ .1) base wrk′ (u .id))
+      means₁ = subst (λ (z : ℕ). Same (plain t base wrk′) (S.inClass (plain a₁ base wrk′) c (some z) (K.told z (u .id) (K.moved z n (queueOf a₁ c)) (cellsOf base c) (cellsOf wrk′ c)) .site)) is₁
+          (forward-means a₁ t shaped₁ laid₁ c i n from to class-small own₁ holds₁ place₁ forward (f .next) d ids₁ (parts₁ .0) (parts₁ .1) base wrk′ (u .id))
 
-      between : Same (S.inClass (plain a₁ base wrk′) c 1 told₁ .site) (S.inClass p c 1 told₁ .site)
+      between : Same (S.inClass (plain a₁ base wrk′) c (some id) told₁ .site) (S.inClass p c (some id) told₁ .site)
       unfolding plain plainClass told₁
-      between = same-in (plain a₁ base wrk′) p c 1 told₁ told₁
-          (λ e m n′. λ j. record { queue = others₁ e m n′ j; committed = cellsOf base e; working = b .others e n′ j }) refl refl refl refl
+      between = same-in (plain a₁ base wrk′) p c (some id) told₁ told₁
+          (λ e m n′. λ j. record { queue = others₁ e m n′ j; committed = cellsOf base e; working = b .others e n′ j }) refl refl (λ j r. refl) refl refl
 
       goes₁ : Goes t wrk′ (u .id)
       unfolding told₁
       goes₁ = goes t wrk′ (u .id) (K.moved id n (queueOf a₁ c)) (b .cells)
           (ap length (d .slots) ∙ length-set (a₁ .slots) i _ ∙ shaped₁ .slots)
-          (kept a₁ t shaped₁ laid₁ c i n from to class-small own₁ holds₁ place₁ forward d i .0 ∙ is₁)
-          (forward-laid a₁ t shaped₁ laid₁ c i n from to class-small own₁ holds₁ place₁ forward d) step₁
-          (forward-queue a₁ t shaped₁ laid₁ c i n from to class-small own₁ holds₁ place₁ forward d ids₁ (parts₁ .0) (parts₁ .1)
+          (kept a₁ t shaped₁ laid₁ c i n from to class-small own₁ holds₁ place₁ forward (f .next) d i .0 ∙ is₁)
+          (forward-laid a₁ t shaped₁ laid₁ c i n from to class-small own₁ holds₁ place₁ forward (f .next) d) step₁
+          (forward-queue a₁ t shaped₁ laid₁ c i n from to class-small own₁ holds₁ place₁ forward (f .next) d ids₁ (parts₁ .0) (parts₁ .1)
           ∙ ap (λ (z : ℕ). K.moved z n (queueOf a₁ c)) is₁)
           (same-trans means₁ between)
 

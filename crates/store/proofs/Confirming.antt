@@ -3,7 +3,7 @@ use Prim.Native.Nat.{ℕ, suc, _+_, _-_, _<_, _≤_}
 use native.Mathlib.Omega.{arith}
 use mathlib.Core.Path.{_≡_, refl, sym, ap, _∙_}
 use mathlib.Core.Bool.{and-false}
-use mathlib.Core.Option.{some}
+use mathlib.Core.Option.{none, some}
 use mathlib.Core.List.{List, _∷_}
 use lib.Dec.{eqb, ltb}
 use lib.ListN.{length, take, drop, length-set}
@@ -12,15 +12,17 @@ use Rattle.plain.specs.Queue as Q
 use Rattle.plain.specs.Steps as K
 use Rattle.plain.specs.Site as S
 use Rattle.plain.proofs.Tests.{by-test}
+use Rattle.plain.proofs.Recent.{as-before}
 use Rattle.places.specs.Moves.{part}
 use Rattle.slots.specs.declared.Slot.{Slot}
 use Rattle.slots.specs.Meaning.{entryOf, isUsed, slotAt}
 use Rattle.slots.specs.Rules.{Holds}
 use Rattle.store.specs.Store.{Store, Shaped}
-use Rattle.store.specs.Meaning.{lenOf, places, entries, queueOf, cellsOf, plain, plainClass, Same}
+use Rattle.store.specs.Meaning.{lenOf, places, entries, queueOf, cellsOf, keptAt, plain, plainClass, Same}
 use Rattle.store.specs.Sound.{times, stands, Laid}
 use Rattle.store.specs.Calls.{State, RightCells, SoundState, Did, plainOf}
 use Rattle.store.specs.Steps.{withSlot, headSlot, withNumber, numberedStore, Commitable, CommitDone}
+use Rattle.store.proofs.KeptIds.{kept-after, unused-after}
 use Rattle.store.proofs.Relaid.{entries-kept}
 use Rattle.store.proofs.Confirm.{holds-kept}
 use Rattle.store.proofs.Commit.{head-is}
@@ -86,7 +88,7 @@ module _ (x : State) (w : Shaped (x .site)) (r : RightCells x) (q : SoundState x
           unfolding S.refusal plain plainClass
           accepted = rw (lt-leb 4294967295 (s .confirmations) more, eq-eqb n (s .confirmations + 1) next, class-here .0, lt-ltb c 16 (class-here .1), entry-here, le-ltb 0 (v .number) (omega arith))
 
-          pub outcome : S.call p k ≡ S.inClass p c 1 (K.confirmStep id n (p .class c))
+          pub outcome : S.call p k ≡ S.inClass p c (some id) (K.confirmStep id n (p .class c))
           unfolding S.act
           outcome = accepted-call p k accepted ∙ rw (class-here .0)
 
@@ -116,7 +118,14 @@ module _ (x : State) (w : Shaped (x .site)) (r : RightCells x) (q : SoundState x
           kept = kept-laid s w (q .laid) i m (withNumber n v) refl refl numbered-held
 
           numbered-laid : Laid s₁
-          numbered-laid = record { free-or-valid = kept .free-or-valid; not-longer-than-128 = kept .not-longer-than-128; exactly-once = kept .exactly-once; past-the-end-zero = kept .past-the-end-zero; map-agrees = kept .map-agrees }
+          numbered-laid = record {
+            free-or-valid = kept .free-or-valid;
+            not-longer-than-128 = kept .not-longer-than-128;
+            exactly-once = kept .exactly-once;
+            past-the-end-zero = kept .past-the-end-zero;
+            map-agrees = kept .map-agrees;
+            unused-zero = unused-after s s₁ n (v .id) (w .kept) next refl refl (q .laid .unused-zero);
+          }
 
           -- the other classes' queues
           elsewhere : (d : ℕ) → d < 16 → (d ≡ c → ⊥) → entries (s₁ .slots) (places s d) ≡ entries (s .slots) (places s d)
@@ -157,7 +166,7 @@ module _ (x : State) (w : Shaped (x .site)) (r : RightCells x) (q : SoundState x
             pub committed-now : v .done ≡ v .count → (t : Store) (base′ : List ℕ) → CommitDone s₁ (x .committed) (x .working) c t base′
                 → Did x k (record { site = t; committed = base′; working = x .working }) (K.committed (v .id) n (v .mark) i)
             committed-now h t base′ d =
-                let o : S.call p k ≡ S.inClass p c 1 done = outcome ∙ ap (S.inClass p c 1) (step-commits h) in
+                let o : S.call p k ≡ S.inClass p c (some id) done = outcome ∙ ap (S.inClass p c (some id)) (step-commits h) in
                 let z : Same (plain t base′ (x .working)) (S.call p k .site) = rw o (same-trans (d .site (K.numbered n (entryOf i v))) between) in
                 record {
                   cells = (d .cells, r .1);
@@ -167,12 +176,13 @@ module _ (x : State) (w : Shaped (x .site)) (r : RightCells x) (q : SoundState x
                   answer = rw o;
                 }
               where
-                between : Same (S.inClass (plain s₁ (x .committed) (x .working)) c 0 (K.commit (K.numbered n (entryOf i v)) (entries (s₁ .slots) ps) (cellsOf (x .working) c)) .site)
-                    (S.inClass p c 1 done .site)
+                between : Same (S.inClass (plain s₁ (x .committed) (x .working)) c none (K.commit (K.numbered n (entryOf i v)) (entries (s₁ .slots) ps) (cellsOf (x .working) c)) .site)
+                    (S.inClass p c (some id) done .site)
                 between = unfold plain plainClass in (record {
                   class = λ d l. by-test (eqb d c)
                       (λ t. rw t (λ j. record { queue = rest-kept j; committed = cellsOf (x .working) c; working = cellsOf (x .working) c }))
                       (λ f. rw f (λ j. record { queue = elsewhere d l (eqb-false d c f) j; committed = cellsOf (x .committed) d; working = cellsOf (x .working) d }));
                   confirmations = omega arith;
                   commits = refl;
+                  kept = λ j u. kept-after s s₁ n (v .id) (w .kept) next refl refl j (as-before (s₁ .confirmations) j u) ∙ ap (λ (z : ℕ). S.keptWith (some z) (suc (s .confirmations)) (keptAt s) j) e;
                 })

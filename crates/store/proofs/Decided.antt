@@ -1,8 +1,8 @@
 -- Soundness is decided, for any site of the declared shape: for the theorem that any two outcomes are equal. Assumes nothing.
-use Prim.Native.Nat.{ℕ, zero, suc, _-_, _/_, _%_, _<_, _≤_, _^_}
+use Prim.Native.Nat.{ℕ, zero, suc, _+_, _-_, _/_, _%_, _<_, _≤_, _^_}
 use native.Mathlib.Omega.{arith}
 use mathlib.Core.Path.{_≡_, refl, sym, ap, _∙_}
-use mathlib.Core.Logic.{_⊎_, inl, inr}
+use mathlib.Core.Logic.{_⊎_, inl, inr, _↔_}
 use mathlib.Core.Bool.{Bool, true, false}
 use mathlib.Core.List.{List, [], _∷_, map}
 use mathlib.Core.Option.{Option·getD}
@@ -14,6 +14,7 @@ use Rattle.cells.specs.declared.Op.{Op}
 use Rattle.plain.proofs.Tests.{by-test, no}
 use Rattle.plain.specs.Ops.{markOf}
 use Rattle.plain.specs.Queue.{Entry, opsOf}
+use Rattle.plain.specs.Site.{Recent}
 use Rattle.plain.specs.Sound.{soFar}
 use Rattle.slots.proofs.Records.{all-zero, free-ops, held, holds}
 use Rattle.slots.specs.Meaning.{freeSlot, isUsed, noSlot, opAt, slotAt}
@@ -21,9 +22,9 @@ use Rattle.slots.specs.Rules.{Holds, OpAt, OpsOk}
 use Rattle.slots.specs.Steps.{Follows}
 use Rattle.slots.specs.declared.Slot.{Slot}
 use Rattle.store.proofs.Flat.{in-range, not-there}
-use Rattle.store.proofs.Whole.{differ-in, laid-of, places-in, sound-of, tails-in, tally-in}
-use Rattle.store.specs.Checks.{InRange, PlaceOk, numbered, slotIn}
-use Rattle.store.specs.Meaning.{cellsOf, lenOf, places, queueOf}
+use Rattle.store.proofs.Whole.{differ-in, kept-in, laid-of, places-in, sound-of, tails-in, tally-in}
+use Rattle.store.specs.Checks.{Filled, InRange, KeptOk, Matching, MatchesAll, PlaceOk, numbered, slotIn}
+use Rattle.store.specs.Meaning.{cellsOf, lenOf, places, queueOf, under}
 use Rattle.store.specs.Sound.{Apart, Cells, Once, Short, Sound, stands, times}
 use Rattle.store.specs.Store.{Shaped, Store}
 use Rattle.usedmap.specs.Flags.{usedOf}
@@ -126,11 +127,38 @@ follows a b =
     (and-then (or-else (eq (b .number) 0) (and-then (lt 0 (a .number)) (λ _. lt (a .number) (b .number))))
     (λ _. and-then (eq (b .done) 0) (λ _. eq (b .mark) 0)))
 
--- numbers in 128 places
-apart : (f : ℕ → ℕ) → Decided (Apart 128 f)
-apart f =
+-- numbers in n places
+apart : (n : ℕ) (f : ℕ → ℕ) → Decided (Apart n f)
+apart n f =
     same (λ h i j l k e. h j k i l e) (λ h j k i l e. h i j l k e)
-    (below (λ j. (i : ℕ) → i < j → f i ≡ f j → f i ≡ 0) 128 (λ j _. below (λ i. f i ≡ f j → f i ≡ 0) j (λ i _. when (eq (f i) (f j)) (λ _. eq (f i) 0))))
+    (below (λ j. (i : ℕ) → i < j → f i ≡ f j → f i ≡ 0) n (λ j _. below (λ i. f i ≡ f j → f i ≡ 0) j (λ i _. when (eq (f i) (f j)) (λ _. eq (f i) 0))))
+
+-- of the last 256 numbers
+recent : (top : ℕ) (P : ℕ → Type 0) → ((n : ℕ) → Decided (P n)) → Decided ((n : ℕ) → Recent top n → P n)
+recent top P d =
+    same (λ h n r. h n (omega (arith, r .within)) (r .given) (r .last)) (λ h n l a b. h n (record { given = a; within = omega arith; last = b }))
+    (below (λ n. 0 < n → top < n + 256 → P n) (suc top) (λ n _. when (lt 0 n) (λ _. when (lt top (n + 256)) (λ _. d n))))
+
+-- the kept ids
+filled : (top : ℕ) (kept : List ℕ) → Decided (Filled top kept)
+filled top kept =
+    same (λ h. record { not-zero = h .0; unused = λ n l k. h .1 n (omega arith) l }) (λ h. (h .not-zero, (λ n k l. h .unused n l (omega arith))))
+    (and-then (recent top (λ n. 0 < under kept n) (λ n. lt 0 (under kept n)))
+    (λ _. below (λ n. top < n → under kept n ≡ 0) 257 (λ n _. when (lt top n) (λ _. eq (under kept n) 0))))
+
+matching : (l : List Slot) (top : ℕ) (kept : List ℕ) → Decided (Matching l top kept)
+matching l top kept =
+    below (λ i. isUsed (slotAt l i) ≡ true → MatchesAll top kept (slotAt l i .number) (slotAt l i .id)) 128
+    (λ i _. when (eq-flag (isUsed (slotAt l i)) true) (λ _. one (slotAt l i .number) (slotAt l i .id)))
+  where
+    one : (number id : ℕ) → Decided (MatchesAll top kept number id)
+    one number id = recent top (λ n. (number ≡ n) ↔ (id ≡ under kept n))
+        (λ n. and-then (when (eq number n) (λ _. eq id (under kept n))) (λ _. when (eq id (under kept n)) (λ _. eq number n)))
+
+kept-ids : (l : List Slot) (top : ℕ) (kept : List ℕ) → Decided (KeptOk l top kept)
+kept-ids l top kept =
+    same (λ h. record { filled = h .0; apart = h .1 .0; matching = h .1 .1 }) (λ h. (h .filled, (h .apart, h .matching)))
+    (and-then (filled top kept) (λ _. and-then (apart 256 (λ p. getD kept p 0)) (λ _. matching l top kept)))
 
 -- a class's cells
 cells : (q : List Entry) (base w : List ℕ) → Decided (Cells q base w)
@@ -159,20 +187,21 @@ module _ (s : Store) (w : Shaped s) where
   pub sound-decided : (base wrk : List ℕ) → Decided (Sound s base wrk)
   sound-decided base wrk =
       same
-      (λ h. sound-of s w base wrk (laid-of s w (h .0) (h .1 .0) (h .1 .1 .0) (h .1 .1 .1 .0) (h .1 .1 .1 .1 .1 .0)) (h .1 .1 .1 .1 .1 .1 .0) (h .1 .1 .1 .1 .1 .1 .1 .0)
-      (h .1 .1 .1 .1 .1 .1 .1 .1 .0) (h .1 .1 .1 .1 .1 .1 .1 .1 .1 .0) (h .1 .1 .1 .1 .1 .1 .1 .1 .1 .1))
+      (λ h. sound-of s w base wrk (laid-of s w (h .0) (h .1 .0) (h .1 .1 .0) (h .1 .1 .1 .0) (h .1 .1 .1 .1 .1 .0) (h .1 .1 .1 .1 .1 .1 .1 .1 .1 .1 .1 .filled .unused)) (h .1 .1 .1 .1 .1 .1 .0) (h .1 .1 .1 .1 .1 .1 .1 .0)
+      (h .1 .1 .1 .1 .1 .1 .1 .1 .0) (h .1 .1 .1 .1 .1 .1 .1 .1 .1 .0) (h .1 .1 .1 .1 .1 .1 .1 .1 .1 .1 .0) (h .1 .1 .1 .1 .1 .1 .1 .1 .1 .1 .1))
       (λ h. let t = tally-in s w base wrk h in
-      (h .laid .free-or-valid, (h .laid .not-longer-than-128, (tails-in s w base wrk h, (h .laid .map-agrees, (in-range s w (h .laid .not-longer-than-128) (h .laid .exactly-once), (h .laid .exactly-once, (differ-in s w base wrk h, (places-in s w base wrk h, (omega arith, (omega arith, h .working-cells-follow)))))))))))
+      (h .laid .free-or-valid, (h .laid .not-longer-than-128, (tails-in s w base wrk h, (h .laid .map-agrees, (in-range s w (h .laid .not-longer-than-128) (h .laid .exactly-once), (h .laid .exactly-once, (differ-in s w base wrk h, (places-in s w base wrk h, (omega arith, (omega arith, (h .working-cells-follow, kept-in s w base wrk h))))))))))))
       (and-then (below (λ i. (slotAt (s .slots) i ≡ freeSlot) ⊎ Holds (slotAt (s .slots) i)) 128 (λ i l. slot (slotAt (s .slots) i) (w .ops i l) (w .ids i l)))
       (λ _. and-then (below (λ c. getD (s .lens) c 0 ≤ 128) 16 (λ c l. le (getD (s .lens) c 0) 128))
       (λ short. and-then (below (λ at. getD (s .lens) (at / 128) 0 ≤ at % 128 → getD (s .queue) at 0 ≡ 0) 2048 (λ at l. when (le (getD (s .lens) (at / 128) 0) (at % 128)) (λ _. eq (getD (s .queue) at 0) 0)))
       (λ _. and-then (eq-list eq-flag (usedOf (s .low) (s .high)) (map isUsed (s .slots)))
       (λ _. and-then (below (λ at. at % 128 < lenOf s (at / 128) → getD (s .queue) at 0 < 128) 2048 (λ at l. when (lt (at % 128) (lenOf s (at / 128))) (λ _. lt (getD (s .queue) at 0) 128)))
       (λ range. and-then (once short range)
-      (λ _. and-then (same (λ h. record { ids = h .0; numbers = h .1 }) (λ h. (h .ids, h .numbers)) (and-then (apart (λ i. slotAt (s .slots) i .id)) (λ _. apart (λ i. slotAt (s .slots) i .number))))
+      (λ _. and-then (same (λ h. record { ids = h .0; numbers = h .1 }) (λ h. (h .ids, h .numbers)) (and-then (apart 128 (λ i. slotAt (s .slots) i .id)) (λ _. apart 128 (λ i. slotAt (s .slots) i .number))))
       (λ _. and-then (below (λ at. at % 128 < lenOf s (at / 128) → PlaceOk (s .slots) (s .queue) (s .confirmations) at) 2048 (λ at l. when (lt (at % 128) (lenOf s (at / 128))) (λ _.
       same (λ h. record { given = h .0; follows = h .1 }) (λ h. (h .given, h .follows))
       (and-then (le (slotIn (s .slots) (s .queue) at .number) (s .confirmations)) (λ _. when (lt 0 (at % 128)) (λ _. follows (slotIn (s .slots) (s .queue) (at - 1)) (slotIn (s .slots) (s .queue) at)))))))
       (λ _. and-then (le (s .commits) (s .confirmations))
       (λ _. and-then (eq (s .confirmations - s .commits) (numbered (s .slots) 128))
-      (λ _. below (λ c. Cells (queueOf s c) (cellsOf base c) (cellsOf wrk c)) 16 (λ c l. cells (queueOf s c) (cellsOf base c) (cellsOf wrk c)))))))))))))
+      (λ _. and-then (below (λ c. Cells (queueOf s c) (cellsOf base c) (cellsOf wrk c)) 16 (λ c l. cells (queueOf s c) (cellsOf base c) (cellsOf wrk c)))
+      (λ _. kept-ids (s .slots) (s .confirmations) (s .kept)))))))))))))

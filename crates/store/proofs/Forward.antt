@@ -1,9 +1,10 @@
 -- A request gets its number and its place moves forward: the site stays laid out, and its class's queue is the plain one moved. Assumes nothing.
-use Prim.Native.Nat.{ℕ, _-_, _<_, _≤_}
+use Prim.Native.Nat.{ℕ, _+_, _-_, _<_, _≤_}
 use native.Mathlib.Omega.{arith}
 use mathlib.Core.Path.{_≡_, refl, sym, ap, _∙_, subst}
 use mathlib.Core.Logic.{_⊎_, inr}
 use mathlib.Core.Bool.{true, false, and-false}
+use mathlib.Core.Option.{some}
 use mathlib.Core.List.{List, [], map}
 use lib.ListN.{length, getD, take, drop, take-append-drop}
 use lib.Seq.{map-set-same}
@@ -29,12 +30,13 @@ use Rattle.store.proofs.Walk.{place-at, each-at}
 use Rattle.store.proofs.Once.{mine-of}
 use Rattle.store.proofs.Standing.{used-small}
 use Rattle.store.proofs.Relaid.{by-slot, entries-kept, Queued, own-places, means}
+use Rattle.store.proofs.KeptIds.{kept-after, unused-after}
 use Rattle.store.proofs.Moving.{Confirmed, moved-queue}
 use Rattle.store.proofs.Confirm.{apart, confirm-laid, confirm-queue, holds-kept}
 use Rattle.store.proofs.Asked.{has-none, there, one-id}
 
 module _ (s t : Store) (w : Shaped s) (h : Laid s) (c i n from to : ℕ) (l : c < 16) (own : slotAt (s .slots) i .class ≡ c) (held : Holds (slotAt (s .slots) i))
-    (place : PlaceOf s c i from) (k : to ≤ from) (d : Forward s c i n from to t) where
+    (place : PlaceOf s c i from) (k : to ≤ from) (next : n ≡ s .confirmations + 1) (d : Forward s c i n from to t) where
   abbrev v : Slot
   v = slotAt (s .slots) i
 
@@ -75,6 +77,7 @@ module _ (s t : Store) (w : Shaped s) (h : Laid s) (c i n from to : ℕ) (l : c 
   pub forward-laid : Laid t
   forward-laid = confirm-laid s t w h c from to l (omega (arith, long, place .within)) k
       (subst (λ (x : ℕ). Queued s t c (movedUp x ps from to)) (sym at) queued) kept valid (rw (d .map .0, d .map .1)) flags
+      (unused-after s t n (v .id) (w .kept) next (d .confirmations) (d .kept) (h .unused-zero))
 
   -- where it stands it stands once
   once : times i ps ≡ 1
@@ -104,9 +107,10 @@ module _ (s t : Store) (w : Shaped s) (h : Laid s) (c i n from to : ℕ) (l : c 
         ∙ entries-kept (s .slots) i (withNumber n v) inside (places s e) (h .exactly-once e i m ∙ rw (own, ne-eqb c e (λ z. ne (sym z)), and-false (isUsed v)))
 
     pub forward-means : (base wrk : List ℕ) (back : ℕ)
-        → Same (plain t base wrk) (S.inClass (plain s base wrk) c 1 (K.told (v .id) back (K.moved (v .id) n (queueOf s c)) (cellsOf base c) (cellsOf wrk c)) .site)
+        → Same (plain t base wrk) (S.inClass (plain s base wrk) c (some (v .id)) (K.told (v .id) back (K.moved (v .id) n (queueOf s c)) (cellsOf base c) (cellsOf wrk c)) .site)
     forward-means base wrk back =
-        means s t c (movedUp i ps from to) queued base wrk base wrk 1 (K.told (v .id) back (K.moved (v .id) n (queueOf s c)) (cellsOf base c) (cellsOf wrk c))
+        means s t c (movedUp i ps from to) queued base wrk base wrk (some (v .id)) (K.told (v .id) back (K.moved (v .id) n (queueOf s c)) (cellsOf base c) (cellsOf wrk c))
         (ap (λ (z : List Slot). entries z (movedUp i ps from to)) (d .slots)
         ∙ confirm-queue (s .slots) ps i from to n (omega (arith, long, place .within)) k at once inside (first ids) a b)
         refl refl elsewhere (λ e m ne. (refl, refl)) (d .confirmations) (d .commits ∙ omega arith)
+        (kept-after s t n (v .id) (w .kept) next (d .confirmations) (d .kept))

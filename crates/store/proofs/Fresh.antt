@@ -1,5 +1,5 @@
 -- A fresh site is sound. Assumes nothing.
-use Prim.Native.Nat.{ℕ, _+_, _*_, _-_, _<_, _≤_}
+use Prim.Native.Nat.{ℕ, _%_, _+_, _*_, _-_, _<_, _≤_}
 use native.Mathlib.Omega.{arith}
 use mathlib.Core.Path.{_≡_, refl, sym, ap, _∙_, subst}
 use mathlib.Core.Logic.{inl}
@@ -12,14 +12,14 @@ use Rattle.plain.specs.Site as S
 use Rattle.places.specs.Moves.{part}
 use Rattle.plain.proofs.Tests.{by-test}
 use Rattle.plain.specs.Queue.{Entry, isConfirmed, count}
-use Rattle.plain.specs.Site.{sum}
+use Rattle.plain.specs.Site.{sum, Recent}
 use Rattle.plain.specs.Sound.{InOrder}
 use Rattle.slots.specs.Meaning.{freeSlot, isUsed, noSlot, slotAt}
 use Rattle.slots.specs.declared.Slot.{Slot}
 use Rattle.plain.proofs.Sums.{sum-nothing}
 use Rattle.store.specs.Calls.{fresh}
 use Rattle.store.specs.Meaning.{Same, cellsOf, lenOf, places, plain, plainClass, queueOf}
-use Rattle.store.specs.Sound.{Cells, Rest, Sound, stands, times}
+use Rattle.store.specs.Sound.{Cells, Rest, Sound, stands, times, Unused}
 use Rattle.usedmap.specs.Flags.{bitsOf, usedOf}
 
 module _ where
@@ -65,6 +65,14 @@ module _ where
   counts : fresh .confirmations ≡ fresh .commits + sum (λ c. count isConfirmed (queueOf fresh c)) 16
   counts = zero-both (sum-nothing (λ c. count isConfirmed (queueOf fresh c)) 16 (λ c l. ap (λ (q : List Entry). count isConfirmed q) (no-queue c l)))
 
+  none-recent : (n : ℕ) → Recent (fresh .confirmations) n → ⊥
+  unfolding fresh
+  none-recent n r = omega (arith, r .given, r .within)
+
+  none-kept : Unused fresh
+  unfolding fresh
+  none-kept n l k = getD-replicate 256 (n % 256) 0 0 (omega arith)
+
   pub fresh-sound : (base : List ℕ) → Sound fresh base base
   fresh-sound base = record {
     laid = record {
@@ -73,6 +81,7 @@ module _ where
       exactly-once = λ c i l. ap (times i) (no-place c l) ∙ sym (stands-not c i);
       past-the-end-zero = λ c l. rw (no-len c l) (zero-part c l);
       map-agrees = same-map;
+      unused-zero = none-kept;
     };
     ids-differ = λ i j l m e. ap (λ (v : Slot). v .id) (slot-free i (omega arith));
     confirmed-before-waiting = λ c l. subst (λ (q : List Entry). InOrder 0 (fresh .confirmations) q) (sym (no-queue c l)) tt;
@@ -80,6 +89,9 @@ module _ where
     counts-agree = counts;
     only-a-head-done = λ c l. subst Rest (sym (no-queue c l)) tt;
     working-cells-follow = λ c l. subst (λ (q : List Entry). Cells q (cellsOf base c) (cellsOf base c)) (sym (no-queue c l)) refl;
+    kept-not-zero = λ n r. absurd (none-recent n r);
+    kept-differ = λ m n r. absurd (none-recent m r);
+    kept-queued = λ i l u n r. absurd (none-recent n r);
   }
 
   zero-cells : (c : ℕ) → c < 16 → cellsOf (replicate 1024 0) c ≡ replicate 64 0
@@ -96,4 +108,5 @@ module _ where
     class = λ c l. λ i. record { queue = no-queue c l i; committed = zero-cells c l i; working = zero-cells c l i };
     confirmations = refl;
     commits = refl;
+    kept = λ n r. absurd (omega (arith, r .given, r .within));
   }

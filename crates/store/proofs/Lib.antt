@@ -1,5 +1,6 @@
 pub mod Lists
 pub mod Sums
+pub mod KeptIds
 pub mod Canonical
 pub mod Walk
 pub mod Agree

@@ -2,22 +2,22 @@
 use Prim.Native.Nat.{ℕ, _<_, _≤_}
 use native.Mathlib.Omega.{arith}
 use mathlib.Core.Path.{_≡_, refl, sym, ap, _∙_}
-use mathlib.Core.Logic.{_⊎_, inl, inr}
+use mathlib.Core.Logic.{_⊎_, inl, inr, _↔_}
 use mathlib.Core.Bool.{Bool, true, false, cond}
 use mathlib.Core.List.{List, [], _∷_}
 use lib.Dec.{eqb, ltb}
 use lib.ListN.{length}
-use borrow.Author.Tests.{eqb-true, eq-eqb, ne-eqb, ltb-true, ltb-false}
-use Rattle.plain.specs.Queue.{Entry, idIs, slotIs, numberIs}
+use borrow.Author.Tests.{eqb-true, eqb-false, eq-eqb, ne-eqb, lt-ltb, ltb-true, ltb-false}
+use Rattle.plain.specs.Queue.{Entry, idOf, idIs, slotIs, numberIs}
 use Rattle.plain.specs.Site.{sum, standing}
-use Rattle.plain.specs.Sound.{All, Belongs, Working, SoundSite, Differ}
+use Rattle.plain.specs.Sound.{All, Belongs, Working, SoundSite, Differ, strange}
 use Rattle.plain.proofs.Tests.{by-test, no}
-use Rattle.plain.proofs.Sums.{sum-apart, sum-pair}
+use Rattle.plain.proofs.Sums.{sum-apart, sum-nothing, sum-pair, sum-term}
 use Rattle.slots.specs.declared.Slot.{Slot}
 use Rattle.slots.specs.Meaning.{freeSlot, entryOf, slotAt, isUsed}
 use Rattle.slots.specs.Rules.{Holds}
 use Rattle.store.specs.Store.{Store}
-use Rattle.store.specs.Meaning.{places, entries, queueOf, plainClass, plain}
+use Rattle.store.specs.Meaning.{places, entries, queueOf, keptAt, plainClass, plain}
 use Rattle.store.specs.Sound.{Laid, Sound, Rest, Cells}
 use Rattle.store.specs.Checks.{Mine}
 use Rattle.store.proofs.Canonical.{has-id}
@@ -35,6 +35,23 @@ cells-of (e ∷ q) base w h = h
 all-entries : (P : ℕ → Type 0) (Q : Entry → Type 0) (l : List Slot) → ((x : ℕ) → P x → Q (entryOf x (slotAt l x))) → (ps : List ℕ) → All P ps → All Q (entries l ps)
 all-entries P Q l f [] h = tt
 all-entries P Q l f (x ∷ ps) h = (f x (h .0), all-entries P Q l f ps (h .1))
+
+-- a request with a number exactly if it has an id is not strange
+to-strange : (n i : ℕ) (e : Entry) → 0 < n → (e .number ≡ n) ↔ (idOf e ≡ i) → strange n i e ≡ false
+to-strange n i e l h =
+    by-test (eqb (e .number) n)
+    (λ t. rw (lt-ltb 0 n l, t, eq-eqb (idOf e) i (h .0 (eqb-true _ n t))))
+    (λ f. rw (lt-ltb 0 n l, f, ne-eqb (idOf e) i (λ z. eqb-false _ n f (h .1 z))))
+
+from-strange : (n i : ℕ) (e : Entry) → 0 < n → strange n i e ≡ false → (e .number ≡ n) ↔ (idOf e ≡ i)
+from-strange n i e l f =
+    by-test (eqb (e .number) n)
+    (λ t. by-test (eqb (idOf e) i)
+    (λ u. ((λ _. eqb-true _ i u), (λ _. eqb-true _ n t)))
+    (λ g. no _ (rw (lt-ltb 0 n l, t, g)) f))
+    (λ t. by-test (eqb (idOf e) i)
+    (λ u. no _ (rw (lt-ltb 0 n l, t, u)) f)
+    (λ g. ((λ z. absurd (eqb-false _ n t z)), (λ z. absurd (eqb-false _ i g z)))))
 
 -- what is used and passes
 both : (b c : Bool) → _≡_ {A = ℕ} (cond b (cond c 1 0) 0) 1 → (b ≡ true) × (c ≡ true)
@@ -102,6 +119,12 @@ module _ (s : Store) (n : length (s .slots) ≡ 128) (h : Laid s) where
           let a = number-at x j p in let b = number-at y j q in
           let z = r .numbers-differ x y l m (a .1 ∙ sym (b .1)) in omega (arith, a .0, a .1));
       tally = r .counts-agree;
+      kept-not-zero = r .kept-not-zero;
+      kept-differ = r .kept-differ;
+      kept-queued = λ k l. standing-plain (strange k (keptAt s k)) ∙ sum-nothing (passing s n (strange k (keptAt s k))) 128 (λ i m.
+          by-test (isUsed (slotAt (s .slots) i))
+          (λ u. rw (u, to-strange k (keptAt s k) (entryOf i (slotAt (s .slots) i)) (l .given) (r .kept-queued i m u k l)))
+          (λ f. rw f));
     }
       where
         number-at : (x j : ℕ) → numberIs j (entryOf x (slotAt (s .slots) x)) ≡ true → (0 < j) × (slotAt (s .slots) x .number ≡ j)
@@ -127,6 +150,13 @@ module _ (s : Store) (n : length (s .slots) ≡ 128) (h : Laid s) where
       counts-agree = r .tally;
       only-a-head-done = λ c l. cells-of (queueOf s c) _ _ (r .each c l .working) .1;
       working-cells-follow = λ c l. cells-of (queueOf s c) _ _ (r .each c l .working) .0;
+      kept-not-zero = r .kept-not-zero;
+      kept-differ = r .kept-differ;
+      kept-queued = λ i m u k l. from-strange k (keptAt s k) (entryOf i (slotAt (s .slots) i)) (l .given)
+          (by-test (strange k (keptAt s k) (entryOf i (slotAt (s .slots) i)))
+          (λ t. let a : passing s n (strange k (keptAt s k)) i ≡ 1 = rw (u, t) in
+          absurd (omega (arith, r .kept-queued k l, standing-plain (strange k (keptAt s k)), sum-term (passing s n (strange k (keptAt s k))) 128 i m)))
+          (λ f. f));
     }
       where
         free-id : (x : ℕ) → isUsed (slotAt (s .slots) x) ≡ false → slotAt (s .slots) x .id ≡ 0

@@ -4,6 +4,7 @@ use native.Mathlib.Omega.{arith}
 use mathlib.Core.Path.{_≡_, refl, sym, ap, _∙_, subst}
 use mathlib.Core.Logic.{_⊎_, inr}
 use mathlib.Core.Bool.{Bool, true, false, cond, _&&_}
+use mathlib.Core.Option.{none}
 use mathlib.Core.List.{List, [], _∷_, _++_, map}
 use lib.ListN.{length, set, length-append}
 use lib.Seq.{getD-set-same, getD-set-other}
@@ -70,13 +71,13 @@ module _ (s : Store) (w : Shaped s) (h : Laid s) (c i : ℕ) (v : Slot) (lo hi :
       is-used = let n = has-id v held in rw (ne-eqb (v .id) 0 (omega arith))
 
   pub offer-laid : Laid t
-  offer-laid = relaid s t c ps queued h slotted
+  offer-laid = relaid s t c ps queued h slotted (h .unused-zero)
 
   pub old-entries : (d : ℕ) → d < 16 → entries (t .slots) (places s d) ≡ entries (s .slots) (places s d)
   old-entries d k = entries-kept (s .slots) i v inside (places s d) (nowhere d k)
 
   module _ (base wrk : List ℕ) (r : P.Request) (new : entryOf i v ≡ K.newEntry r i) where
-    pub offer-means : Same (plain t base wrk) (S.inClass (plain s base wrk) c 0 (K.offerStep r i (plain s base wrk .class c)) .site)
+    pub offer-means : Same (plain t base wrk) (S.inClass (plain s base wrk) c none (K.offerStep r i (plain s base wrk .class c)) .site)
     unfolding plain plainClass K.offerStep
-    offer-means = means s t c ps queued base wrk base wrk 0 (K.offerStep r i (plain s base wrk .class c))
-        (rw (map-append, old-entries c l, at-stored (s .slots) i v inside, new)) refl refl (λ d k ne. old-entries d k) (λ d k ne. (refl, refl)) (omega arith) (omega arith)
+    offer-means = means s t c ps queued base wrk base wrk none (K.offerStep r i (plain s base wrk .class c))
+        (rw (map-append, old-entries c l, at-stored (s .slots) i v inside, new)) refl refl (λ d k ne. old-entries d k) (λ d k ne. (refl, refl)) (omega arith) (omega arith) (λ n r. refl)

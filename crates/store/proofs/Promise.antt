@@ -12,7 +12,7 @@ use Rattle.plain.specs.Site as S
 use Rattle.plain.proofs.Kept.{call-sound}
 use Rattle.plain.proofs.Tests.{by-test}
 use Rattle.plain.specs.Queue.{numberIs}
-use Rattle.plain.specs.Sound.{SoundSite}
+use Rattle.plain.specs.Sound.{SoundSite, strange}
 use Rattle.store.proofs.Canonical.{canonical, canonical-cells}
 use Rattle.store.proofs.Decided.{sound-decided}
 use Rattle.store.proofs.Meant.{to-plain, from-plain}
@@ -24,10 +24,10 @@ use Rattle.store.specs.Sound.{Laid}
 use Rattle.store.specs.Store.{Shaped}
 
 pub same-sym : {a b : S.Site} → Same a b → Same b a
-same-sym e = record { class = λ c l. sym (e .class c l); confirmations = sym (e .confirmations); commits = sym (e .commits) }
+same-sym e = record { class = λ c l. sym (e .class c l); confirmations = sym (e .confirmations); commits = sym (e .commits); kept = λ n r. sym (e .kept n (rw (e .confirmations) r)) }
 
 pub same-trans : {a b c : S.Site} → Same a b → Same b c → Same a c
-same-trans e f = record { class = λ c l. e .class c l ∙ f .class c l; confirmations = e .confirmations ∙ f .confirmations; commits = e .commits ∙ f .commits }
+same-trans e f = record { class = λ c l. e .class c l ∙ f .class c l; confirmations = e .confirmations ∙ f .confirmations; commits = e .commits ∙ f .commits; kept = λ n r. e .kept n r ∙ f .kept n (rw (← (e .confirmations)) r) }
 
 -- in the one as many requests pass a test as in the other
 pub same-standing : (a b : S.Site) → Same a b → (f : Item → Bool) → S.standing f a ≡ S.standing f b
@@ -41,7 +41,13 @@ same-sound a b e h = record {
   ids = λ j. rw (same-standing a b e (idIs j)) (h .ids j);
   numbers = λ j. rw (same-standing a b e (numberIs j)) (h .numbers j);
   tally = omega (arith, e .confirmations, e .commits, h .tally, same-standing a b e isConfirmed);
+  kept-not-zero = λ n r. rw (e .kept n r) (h .kept-not-zero n (there r));
+  kept-differ = λ m n r q z. h .kept-differ m n (there r) (there q) (sym (e .kept m r) ∙ z ∙ e .kept n q);
+  kept-queued = λ n r. rw (e .kept n r, same-standing a b e (strange n (b .kept n))) (h .kept-queued n (there r));
 }
+  where
+    there : {n : ℕ} → S.Recent (a .confirmations) n → S.Recent (b .confirmations) n
+    there r = rw (← (e .confirmations)) r
 
 -- a call that leaves the slots and places laid out, and does what the plain call does, leaves the site sound
 pub sound-kept : (x y : State) (k : S.Call) → Shaped (x .site) → length (y .site .slots) ≡ 128 → SoundState x → Laid (y .site)

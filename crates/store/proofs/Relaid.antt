@@ -1,9 +1,10 @@
 -- A step that changes the queue of one class: what is to be shown of the new site so that it is laid out, and what it then means. Assumes nothing.
-use Prim.Native.Nat.{ℕ, _+_, _*_, _-_, _<_, _≤_}
+use Prim.Native.Nat.{ℕ, suc, _+_, _*_, _-_, _<_, _≤_}
 use native.Mathlib.Omega.{arith}
 use mathlib.Core.Path.{_≡_, refl, sym, ap, _∙_, subst}
 use mathlib.Core.Logic.{_⊎_}
 use mathlib.Core.Bool.{not}
+use mathlib.Core.Option.{Option}
 use mathlib.Core.List.{List, _++_, map}
 use lib.Dec.{eqb, ltb}
 use lib.ListN.{length, drop, set, replicate}
@@ -17,8 +18,8 @@ use Rattle.slots.specs.Meaning.{entryOf, freeSlot, isUsed, noSlot, slotAt}
 use Rattle.slots.specs.Rules.{Holds}
 use Rattle.slots.specs.declared.Slot.{Slot}
 use Rattle.store.proofs.Lists.{map-same}
-use Rattle.store.specs.Meaning.{Same, cellsOf, entries, lenOf, places, plain, plainClass}
-use Rattle.store.specs.Sound.{Laid, stands, times}
+use Rattle.store.specs.Meaning.{Same, cellsOf, entries, keptAt, lenOf, places, plain, plainClass}
+use Rattle.store.specs.Sound.{Laid, Unused, stands, times}
 use Rattle.store.specs.Store.{Store}
 use Rattle.usedmap.specs.Flags.{usedOf}
 
@@ -77,8 +78,8 @@ module _ (s t : Store) (c : ℕ) (ps : List ℕ) (q : Queued s t c ps) where
   each-class : (P : ℕ → Type 0) → P c → ((d : ℕ) → d < 16 → (d ≡ c → ⊥) → P d) → (d : ℕ) → d < 16 → P d
   each-class P h g d l = by-test (eqb d c) (λ e. subst P (sym (eqb-true d c e)) h) (λ n. g d l (eqb-false d c n))
 
-  pub relaid : Laid s → Slotted s t c ps → Laid t
-  relaid h k = record {
+  pub relaid : Laid s → Slotted s t c ps → Unused t → Laid t
+  relaid h k u = record {
     free-or-valid = k .slots;
     not-longer-than-128 = each-class (λ d. lenOf t d ≤ 128) (omega (arith, q .len, q .fits)) (λ d l ne. omega (arith, q .others d l ne .0, h .not-longer-than-128 d l));
     exactly-once = λ d i l. each-class (λ d. times i (places t d) ≡ stands d (slotAt (t .slots) i))
@@ -88,20 +89,23 @@ module _ (s t : Store) (c : ℕ) (ps : List ℕ) (q : Queued s t c ps) where
         (rw (q .len, q .own) (drop-at ps (replicate (128 - length ps) 0) (length ps) refl))
         (λ d l ne. rw (q .others d l ne .0, q .others d l ne .1) (h .past-the-end-zero d l));
     map-agrees = k .used;
+    unused-zero = u;
   }
 
   -- what it means: the steps of the plain queue in class c
-  pub means : (base wrk base′ wrk′ : List ℕ) (more : ℕ) (did : K.Did)
+  pub means : (base wrk base′ wrk′ : List ℕ) (new : Option ℕ) (did : K.Did)
       → entries (t .slots) ps ≡ did .class .queue → cellsOf base′ c ≡ did .class .committed → cellsOf wrk′ c ≡ did .class .working
       → ((d : ℕ) → d < 16 → (d ≡ c → ⊥) → entries (t .slots) (places s d) ≡ entries (s .slots) (places s d))
       → ((d : ℕ) → d < 16 → (d ≡ c → ⊥) → (cellsOf base′ d ≡ cellsOf base d) × (cellsOf wrk′ d ≡ cellsOf wrk d))
-      → t .confirmations ≡ s .confirmations + more → t .commits ≡ s .commits + S.commitsBy (did .answer)
-      → Same (plain t base′ wrk′) (S.inClass (plain s base wrk) c more did .site)
+      → t .confirmations ≡ s .confirmations + S.given new → t .commits ≡ s .commits + S.commitsBy (did .answer)
+      → ((n : ℕ) → S.Recent (t .confirmations) n → keptAt t n ≡ S.keptWith new (suc (s .confirmations)) (keptAt s) n)
+      → Same (plain t base′ wrk′) (S.inClass (plain s base wrk) c new did .site)
   unfolding plain plainClass
-  means base wrk base′ wrk′ more did e f g o z m n = record {
-    class = each-class (λ d. plainClass t base′ wrk′ d ≡ S.inClass (plain s base wrk) c more did .site .class d)
+  means base wrk base′ wrk′ new did e f g o z m n ids = record {
+    class = each-class (λ d. plainClass t base′ wrk′ d ≡ S.inClass (plain s base wrk) c new did .site .class d)
         (rw (eq-eqb c c refl, own-places) (λ i. record { queue = e i; committed = f i; working = g i }))
         (λ d l ne. rw (ne-eqb d c ne, other-places d l ne) (λ i. record { queue = o d l ne i; committed = z d l ne .0 i; working = z d l ne .1 i }));
     confirmations = m;
     commits = n;
+    kept = ids;
   }

@@ -1,16 +1,18 @@
 -- On plain sites that are the same every call and every history does the same: no class past the 16 is looked at. Assumes nothing.
 use Prim.Native.Nat.{ℕ, _<_}
 use mathlib.Core.Path.{_≡_, refl, ap}
+use native.Mathlib.Omega.{arith}
 use mathlib.Core.Bool.{true}
+use mathlib.Core.Option.{Option, none, some}
 use mathlib.Core.List.{List, [], _∷_}
-use lib.Dec.{ltb, leb}
+use lib.Dec.{ltb, leb, eqb}
 use lib.ListN.{length}
 use borrow.Author.Tests.{leb-false, ltb-true}
 use Rattle.plain.specs.Record.{requestIn}
 use Rattle.plain.specs.Queue.{slotIs, asked, has}
 use Rattle.plain.specs.Steps.{Class, Did, workStep, confirmStep}
 use Rattle.plain.specs.Site.{Site, Call, Outcome, offer, work, confirm, read, look, call, act, accepts, refusal, inClass, commitsBy}
-use Rattle.plain.specs.Site.{classOf, isFree, freeSlot, numberQueued}
+use Rattle.plain.specs.Site.{classOf, isFree, freeSlot, numberQueued, isKept, firstRecent, recentCount}
 use Rattle.plain.specs.History.{afterFrom, worksFrom}
 use Rattle.plain.proofs.Tests.{by-test}
 use Rattle.plain.proofs.Sums.{sum-same}
@@ -42,6 +44,15 @@ module _ (a b : Site) (e : Same a b) where
       sum-same (λ c. length (asked (a .class c .queue))) (λ c. length (asked (b .class c .queue))) 16
       (λ c l. ap (λ (k : Class). length (asked (k .queue))) (e .class c l))
 
+  same-kept : (i : ℕ) → isKept a i ≡ isKept b i
+  unfolding isKept
+  same-kept i =
+      rw (
+        ← (e .confirmations),
+        lowest-same (λ n. eqb (a .kept n) i) (λ n. eqb (b .kept n) i) (firstRecent (a .confirmations)) (recentCount (a .confirmations))
+            (λ n l m. rw (e .kept n (record { given = omega arith; within = omega arith; last = omega arith }))),
+      )
+
   -- the class of an id that is queued
   same-at : (i : ℕ) → classOf b i < 16 → a .class (classOf a i) ≡ b .class (classOf b i)
   same-at i l = rw (same-class i) (e .class (classOf b i) l)
@@ -49,7 +60,7 @@ module _ (a b : Site) (e : Same a b) where
   -- REFUSALS
   pub same-refusal : (k : Call) → refusal a k ≡ refusal b k
   unfolding refusal
-  same-refusal (offer x) = rw (same-class (requestIn x .id), same-queued)
+  same-refusal (offer x) = rw (same-class (requestIn x .id), same-kept (requestIn x .id), same-queued)
   same-refusal (work c) = by-test (leb 16 c) (λ t. rw t) (λ f. rw (f, e .class c (leb-false 16 c f)))
   same-refusal (confirm i n) =
       by-test (ltb (classOf b i) 16)
@@ -59,10 +70,10 @@ module _ (a b : Site) (e : Same a b) where
   same-refusal (look i) = rw (same-class i)
 
   -- WHAT AN ACCEPTED CALL DOES. A step in one class that is the same
-  step-agrees : (c more : ℕ) (d f : Did) → d ≡ f → Agree (inClass a c more d) (inClass b c more f)
-  step-agrees c more d f p = (
+  step-agrees : (c : ℕ) (new : Option ℕ) (d f : Did) → d ≡ f → Agree (inClass a c new d) (inClass b c new f)
+  step-agrees c new d f p = (
     ap (λ (x : Did). x .answer) p,
-    same-in a b c more d f (λ k l n. e .class k l) (e .confirmations) (e .commits) (ap (λ (x : Did). x .class) p)
+    same-in a b c new d f (λ k l n. e .class k l) (e .confirmations) (e .commits) (e .kept) (ap (λ (x : Did). x .class) p)
         (ap (λ (x : Did). commitsBy (x .answer)) p),
   )
 
@@ -70,10 +81,10 @@ module _ (a b : Site) (e : Same a b) where
   unfolding act
   act-agrees (offer x) t =
       let r = requestIn x in
-      step-agrees (r .class) 0 _ _ (rw (same-free, e .class (r .class) (offer-accepted b x t .class)))
-  act-agrees (work c) t = step-agrees c 0 _ _ (ap workStep (e .class c (work-accepted b c t .0)))
+      step-agrees (r .class) none _ _ (rw (same-free, e .class (r .class) (offer-accepted b x t .class)))
+  act-agrees (work c) t = step-agrees c none _ _ (ap workStep (e .class c (work-accepted b c t .0)))
   act-agrees (confirm i n) t =
-      rw (same-class i) (step-agrees (classOf b i) 1 _ _ (ap (confirmStep i n) (e .class (classOf b i) (confirm-accepted b i n t .known))))
+      rw (same-class i) (step-agrees (classOf b i) (some i) _ _ (ap (confirmStep i n) (e .class (classOf b i) (confirm-accepted b i n t .known))))
   act-agrees (read c k) t = (rw (e .class c (read-accepted b c k t)), e)
   act-agrees (look i) t = (rw (same-at i (look-accepted b i t)), e)
 

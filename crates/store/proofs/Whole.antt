@@ -5,19 +5,21 @@ use mathlib.Core.Path.{_≡_}
 use mathlib.Core.List.{List, map}
 use Rattle.slots.specs.Meaning.{isUsed}
 use Rattle.store.proofs.Flat.{ordered, past-of, places-of, tails-of}
+use Rattle.store.proofs.KeptIds.{differ-of, apart-of}
 use Rattle.store.proofs.Tally.{queued-confirmed}
-use Rattle.store.specs.Checks.{CellsOk, Differ, PlacesOk, Tails, numbered}
-use Rattle.store.specs.Sound.{Laid, Once, Short, SlotsOk, Sound}
+use Rattle.store.specs.Checks.{CellsOk, Differ, KeptOk, PlacesOk, Tails, numbered}
+use Rattle.store.specs.Sound.{Laid, Once, Short, SlotsOk, Sound, Unused}
 use Rattle.store.specs.Store.{Shaped, Store}
 use Rattle.usedmap.specs.Flags.{usedOf}
 
 module _ (s : Store) (w : Shaped s) where
-  pub laid-of : SlotsOk s → Short (s .lens) → Tails (s .queue) (s .lens) → usedOf (s .low) (s .high) ≡ map isUsed (s .slots) → Once s → Laid s
-  laid-of a b t u o = record { free-or-valid = a; not-longer-than-128 = b; exactly-once = o; past-the-end-zero = λ c l. past-of s w b c l t; map-agrees = u }
+  pub laid-of : SlotsOk s → Short (s .lens) → Tails (s .queue) (s .lens) → usedOf (s .low) (s .high) ≡ map isUsed (s .slots) → Once s → Unused s → Laid s
+  laid-of a b t u o z = record { free-or-valid = a; not-longer-than-128 = b; exactly-once = o; past-the-end-zero = λ c l. past-of s w b c l t; map-agrees = u; unused-zero = z }
 
   module _ (base wrk : List ℕ) where
-    pub sound-of : Laid s → Differ (s .slots) → PlacesOk s → s .commits ≤ s .confirmations → s .confirmations - s .commits ≡ numbered (s .slots) 128 → CellsOk s base wrk → Sound s base wrk
-    sound-of h d p l n k = record {
+    pub sound-of : Laid s → Differ (s .slots) → PlacesOk s → s .commits ≤ s .confirmations → s .confirmations - s .commits ≡ numbered (s .slots) 128 → CellsOk s base wrk
+        → KeptOk (s .slots) (s .confirmations) (s .kept) → Sound s base wrk
+    sound-of h d p l n k ids = record {
       laid = h;
       ids-differ = d .ids;
       confirmed-before-waiting = λ c m. ordered s w (h .not-longer-than-128) c m p .0;
@@ -25,6 +27,9 @@ module _ (s : Store) (w : Shaped s) where
       counts-agree = omega (arith, queued-confirmed s w (h .free-or-valid) (h .exactly-once));
       only-a-head-done = λ c m. ordered s w (h .not-longer-than-128) c m p .1;
       working-cells-follow = k;
+      kept-not-zero = ids .filled .not-zero;
+      kept-differ = differ-of (s .confirmations) (s .kept) (ids .filled .not-zero) (ids .apart);
+      kept-queued = ids .matching;
     }
 
     module _ (h : Sound s base wrk) where
@@ -33,6 +38,13 @@ module _ (s : Store) (w : Shaped s) where
 
       pub differ-in : Differ (s .slots)
       differ-in = record { ids = h .ids-differ; numbers = h .numbers-differ }
+
+      pub kept-in : KeptOk (s .slots) (s .confirmations) (s .kept)
+      kept-in = record {
+        filled = record { not-zero = h .kept-not-zero; unused = h .laid .unused-zero };
+        apart = apart-of (s .confirmations) (s .kept) (h .laid .unused-zero) (h .kept-differ);
+        matching = h .kept-queued;
+      }
 
       pub places-in : PlacesOk s
       places-in = places-of s w (h .laid .not-longer-than-128) (h .confirmed-before-waiting) (h .only-a-head-done)

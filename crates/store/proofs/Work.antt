@@ -54,6 +54,7 @@ module _ (s : Store) (w : Shaped s) (h : Laid s) (i : ℕ) (m : i < 128) (u : Sl
     exactly-once = λ c j l. h .exactly-once c j l ∙ sym (stands-same c j);
     past-the-end-zero = h .past-the-end-zero;
     map-agrees = h .map-agrees ∙ sym (map-set-same isUsed (s .slots) i u noSlot (ap (λ (n : ℕ). not (eqb n 0)) id));
+    unused-zero = h .unused-zero;
   }
 
   pub kept-queued : (c : ℕ) → c < 16 → Queued s (withSlot s i u) c (places s c)
@@ -81,13 +82,24 @@ module _ (i : ℕ) (v : Slot) (seven : length (v .ops) ≡ 7) (holds : Holds v) 
           any-default (requestOf v .ops) (v .done) (P.put 0 0) (opOf noOp) (omega (arith, ops-count v seven holds))
           ∙ List·getD-map opOf (take (v .count) (v .ops)) (v .done) noOp ∙ ap opOf (getD-take (v .count) (v .ops) (v .done) noOp left)
 
+-- the ids last confirmed, where a number is given or none is
+kept-in : (m n : ℕ) (f g : ℕ → ℕ) (new : Option ℕ) → m ≡ n → ((j : ℕ) → S.Recent m j → f j ≡ g j)
+    → (j : ℕ) → S.Recent (m + S.given new) j → S.keptWith new (suc m) f j ≡ S.keptWith new (suc n) g j
+kept-in m n f g none e h j r = h j (record { given = r .given; within = omega (arith, r .within); last = omega (arith, r .last) })
+kept-in m n f g (some i) e h j r =
+    by-test (eqb j (suc m))
+    (λ y. rw (y, ← e, y))
+    (λ z. let ne = eqb-false j (suc m) z in
+    rw (z, ← e, z) (h j (record { given = r .given; within = omega (arith, r .within); last = omega (arith, r .last) })))
+
 -- two plain sites that differ in class c alone, and steps there that leave the same
-pub same-in : (a b : S.Site) (c more : ℕ) (d e : K.Did) → ((k : ℕ) → k < 16 → (k ≡ c → ⊥) → a .class k ≡ b .class k) → a .confirmations ≡ b .confirmations → a .commits ≡ b .commits
-    → d .class ≡ e .class → S.commitsBy (d .answer) ≡ S.commitsBy (e .answer) → Same (S.inClass a c more d .site) (S.inClass b c more e .site)
-same-in a b c more d e f g h k m = record {
+pub same-in : (a b : S.Site) (c : ℕ) (new : Option ℕ) (d e : K.Did) → ((k : ℕ) → k < 16 → (k ≡ c → ⊥) → a .class k ≡ b .class k) → a .confirmations ≡ b .confirmations → a .commits ≡ b .commits → ((n : ℕ) → S.Recent (a .confirmations) n → a .kept n ≡ b .kept n)
+    → d .class ≡ e .class → S.commitsBy (d .answer) ≡ S.commitsBy (e .answer) → Same (S.inClass a c new d .site) (S.inClass b c new e .site)
+same-in a b c new d e f g h ids k m = record {
   class = λ j l. by-test (eqb j c) (λ t. rw t k) (λ n. rw n (f j l (eqb-false j c n)));
-  confirmations = ap (λ (n : ℕ). n + more) g;
+  confirmations = ap (λ (n : ℕ). n + S.given new) g;
   commits = rw (h, m);
+  kept = kept-in (a .confirmations) (b .confirmations) (a .kept) (b .kept) new g ids;
 }
 
 module _ (x : State) (w : Shaped (x .site)) (r : RightCells x) (q : SoundState x) (c : ℕ) where
@@ -181,9 +193,9 @@ module _ (x : State) (w : Shaped (x .site)) (r : RightCells x) (q : SoundState x
         abbrev did : K.Did
         did = K.worked (entryOf i u) rest (cellsOf base c) cells
 
-        outcome : S.call p k ≡ S.inClass p c 0 did
+        outcome : S.call p k ≡ S.inClass p c none did
         unfolding S.act K.workStep plain plainClass
-        outcome = accepted-call p k accepted ∙ ap (S.inClass p c 0)
+        outcome = accepted-call p k accepted ∙ ap (S.inClass p c none)
             (ap (λ (z : List Q.Entry). K.workOn z (cellsOf base c) (cellsOf wrk c)) head
             ∙ ap (λ (o : Option (List ℕ)). K.worked (K.advanced (entryOf i v) o) rest (cellsOf base c) (Option·getD o (cellsOf base c))) (tried-same i v (w .ops i small) head-held left (cellsOf wrk c)))
 
@@ -225,9 +237,9 @@ module _ (x : State) (w : Shaped (x .site)) (r : RightCells x) (q : SoundState x
           -- the head stays at the head
           stays : (a : K.Answer) → S.commitsBy a ≡ 0 → did ≡ record { class = record { queue = entryOf i u ∷ rest; committed = cellsOf base c; working = cells }; answer = a } → Did x k y a
           stays a z e =
-              let o : S.call p k ≡ S.inClass p c 0 (record { class = record { queue = entryOf i u ∷ rest; committed = cellsOf base c; working = cells }; answer = a }) = outcome ∙ ap (S.inClass p c 0) e in
-              let m : Same (plain (withSlot s i u) base wrk′) (S.call p k .site) = rw o (means s (withSlot s i u) c (places s c) (kept-queued s w (q .laid) i small u refl refl after-held c l) base wrk base wrk′ 0 (record { class = record { queue = entryOf i u ∷ rest; committed = cellsOf base c; working = cells }; answer = a })
-              queue-after refl own others-after (λ d m ne. (refl, others d ne)) (omega arith) (rw z (omega arith))) in
+              let o : S.call p k ≡ S.inClass p c none (record { class = record { queue = entryOf i u ∷ rest; committed = cellsOf base c; working = cells }; answer = a }) = outcome ∙ ap (S.inClass p c none) e in
+              let m : Same (plain (withSlot s i u) base wrk′) (S.call p k .site) = rw o (means s (withSlot s i u) c (places s c) (kept-queued s w (q .laid) i small u refl refl after-held c l) base wrk base wrk′ none (record { class = record { queue = entryOf i u ∷ rest; committed = cellsOf base c; working = cells }; answer = a })
+              queue-after refl own others-after (λ d m ne. (refl, others d ne)) (omega arith) (rw z (omega arith)) (λ n r. refl)) in
               record { cells = (r .0, n); sound = sound-kept x y k w (length-set (s .slots) i u ∙ w .slots) q after-laid m; site = m; answer = rw o }
 
           pub work-stepped : suc (v .done) < v .count → Did x k y (K.stepped (v .id) (suc (v .done)))
@@ -236,18 +248,18 @@ module _ (x : State) (w : Shaped (x .site)) (r : RightCells x) (q : SoundState x
           pub work-executed : v .count ≤ suc (v .done) → v .number ≡ 0 → Did x k y (K.executed (v .id))
           work-executed h z = stays _ refl (rw (long, le-leb (v .count) (suc (v .done)) h, le-ltb 0 (v .number) (omega arith)))
 
-          between : Same (S.inClass (plain (withSlot s i u) base wrk′) c 0 (K.commit (entryOf i u) (entries (set (s .slots) i u) ps) (cellsOf wrk′ c)) .site)
-              (S.inClass p c 0 (K.commit (entryOf i u) rest cells) .site)
+          between : Same (S.inClass (plain (withSlot s i u) base wrk′) c none (K.commit (entryOf i u) (entries (set (s .slots) i u) ps) (cellsOf wrk′ c)) .site)
+              (S.inClass p c none (K.commit (entryOf i u) rest cells) .site)
           unfolding plain plainClass
-          between = same-in (plain (withSlot s i u) base wrk′) p c 0 (K.commit (entryOf i u) (entries (set (s .slots) i u) ps) (cellsOf wrk′ c)) (K.commit (entryOf i u) rest cells)
-              (λ d m ne. λ j. record { queue = others-after d m ne j; committed = cellsOf base d; working = others d ne j }) refl refl
+          between = same-in (plain (withSlot s i u) base wrk′) p c none (K.commit (entryOf i u) (entries (set (s .slots) i u) ps) (cellsOf wrk′ c)) (K.commit (entryOf i u) rest cells)
+              (λ d m ne. λ j. record { queue = others-after d m ne j; committed = cellsOf base d; working = others d ne j }) refl refl (λ n r. refl)
               (λ j. record { queue = entries-kept (s .slots) i u (omega (arith, w .slots, small)) ps gone j; committed = own j; working = own j }) refl
 
           pub work-committed : v .count ≤ suc (v .done) → 0 < v .number → (t : Store) (base′ : List ℕ) → CommitDone (withSlot s i u) base wrk′ c t base′
               → Did x k (record { site = t; committed = base′; working = wrk′ }) (K.committed (v .id) (v .number) (P.markOf tr) i)
           work-committed h z t base′ d =
               let e : did ≡ K.commit (entryOf i u) rest cells = rw (long, le-leb (v .count) (suc (v .done)) h, lt-ltb 0 (v .number) z) in
-              let o : S.call p k ≡ S.inClass p c 0 (K.commit (entryOf i u) rest cells) = outcome ∙ ap (S.inClass p c 0) e in
+              let o : S.call p k ≡ S.inClass p c none (K.commit (entryOf i u) rest cells) = outcome ∙ ap (S.inClass p c none) e in
               let m : Same (plain t base′ wrk′) (S.call p k .site) = rw o (same-trans (d .site (entryOf i u)) between) in
               record { cells = (d .cells, n); sound = sound-kept x (record { site = t; committed = base′; working = wrk′ }) k w (d .slots ∙ length-set (s .slots) i u ∙ w .slots) q (d .laid) m; site = m; answer = rw o }
 

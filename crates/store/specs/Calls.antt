@@ -3,7 +3,7 @@ use Prim.Native.Nat.{ℕ}
 use mathlib.Core.Path.{_≡_}
 use mathlib.Core.List.{List}
 use lib.ListN.{length, replicate}
-use Rattle.plain.specs.Sizes.{slotCount, classCount}
+use Rattle.plain.specs.Sizes.{slotCount, classCount, keptCount}
 use Rattle.plain.specs.Steps.{Answer, refused}
 use Rattle.plain.specs.Site as S
 use Rattle.plain.specs.Site.{Call, call}
@@ -57,6 +57,7 @@ fresh = record {
   high = 0;
   confirmations = 0;
   commits = 0;
+  kept = replicate keptCount 0;
 }
 
 -- FRESH takes no site: an empty one comes back, the number 0 and all cells 0; with wrong cells the number 1 and every cell as it was

@@ -1,14 +1,14 @@
 -- Document 01, "Sound sites", of a site with its cells: its rules one by one. Assumes nothing.
 use Prim.Native.Nat.{ℕ, suc, _+_, _-_, _<_, _≤_}
 use mathlib.Core.Path.{_≡_}
-use mathlib.Core.Logic.{_⊎_}
-use mathlib.Core.Bool.{cond, _&&_}
+use mathlib.Core.Logic.{_⊎_, _↔_}
+use mathlib.Core.Bool.{true, cond, _&&_}
 use mathlib.Core.List.{List, [], _∷_, map}
 use lib.Dec.{eqb}
 use lib.ListN.{getD, drop, replicate}
-use Rattle.plain.specs.Sizes.{classCount, slotCount}
+use Rattle.plain.specs.Sizes.{classCount, slotCount, keptCount}
 use Rattle.plain.specs.Queue.{Entry, isConfirmed, count}
-use Rattle.plain.specs.Site.{sum}
+use Rattle.plain.specs.Site.{sum, Recent}
 use Rattle.plain.specs.Sound.{All, Untouched, InOrder, Head}
 use Rattle.usedmap.specs.Flags.{usedOf}
 use Rattle.places.specs.Moves.{part}
@@ -16,7 +16,7 @@ use Rattle.slots.specs.declared.Slot.{Slot}
 use Rattle.slots.specs.Meaning.{freeSlot, slotAt, isUsed}
 use Rattle.slots.specs.Rules.{Holds}
 use Rattle.store.specs.Store.{Store}
-use Rattle.store.specs.Meaning.{lenOf, places, queueOf, cellsOf}
+use Rattle.store.specs.Meaning.{lenOf, places, queueOf, cellsOf, keptAt}
 
 -- how often i stands in a list
 abbrev pub times : ℕ → List ℕ → ℕ
@@ -39,7 +39,11 @@ Short lens = (c : ℕ) → c < classCount → getD lens c 0 ≤ slotCount
 abbrev pub Once : Store → Type 0
 Once s = (c i : ℕ) → c < classCount → times i (places s c) ≡ stands c (slotAt (s .slots) i)
 
--- the rules of slots, queue places and the map
+-- unused places of kept ids are zero: those of the numbers up to 256 that were not given yet
+abbrev pub Unused : Store → Type 0
+Unused s = (n : ℕ) → s .confirmations < n → n ≤ keptCount → keptAt s n ≡ 0
+
+-- the rules of slots, queue places, the map, and places of kept ids
 pub record Laid (s : Store) : Type 0 where
   pub free-or-valid : SlotsOk s
   pub not-longer-than-128 : Short (s .lens)
@@ -48,6 +52,7 @@ pub record Laid (s : Store) : Type 0 where
   pub past-the-end-zero : (c : ℕ) → c < classCount → drop (lenOf s c) (part (s .queue) c) ≡ replicate (slotCount - lenOf s c) 0
   -- the map of used slots agrees
   pub map-agrees : usedOf (s .low) (s .high) ≡ map isUsed (s .slots)
+  pub unused-zero : Unused s
 
 -- of numbers in n places 0 may stand in several and any other in one
 abbrev pub Apart : ℕ → (ℕ → ℕ) → Type 0
@@ -78,3 +83,10 @@ pub record Sound (s : Store) (base wrk : List ℕ) : Type 0 where
   pub counts-agree : s .confirmations ≡ s .commits + sum (λ c. count isConfirmed (queueOf s c)) classCount
   pub only-a-head-done : (c : ℕ) → c < classCount → Rest (queueOf s c)
   pub working-cells-follow : (c : ℕ) → c < classCount → Cells (queueOf s c) (cellsOf base c) (cellsOf wrk c)
+  -- kept ids are not 0
+  pub kept-not-zero : (n : ℕ) → Recent (s .confirmations) n → 0 < keptAt s n
+  -- kept ids differ
+  pub kept-differ : (m n : ℕ) → Recent (s .confirmations) m → Recent (s .confirmations) n → keptAt s m ≡ keptAt s n → m ≡ n
+  -- a queued request has a kept id exactly if its number is kept, and then the one under it
+  pub kept-queued : (i : ℕ) → i < slotCount → isUsed (slotAt (s .slots) i) ≡ true → (n : ℕ) → Recent (s .confirmations) n
+      → (slotAt (s .slots) i .number ≡ n) ↔ (slotAt (s .slots) i .id ≡ keptAt s n)

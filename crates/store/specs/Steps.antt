@@ -1,11 +1,12 @@
 -- What the steps do to the arrays and to a slot. Assumes nothing.
-use Prim.Native.Nat.{ℕ, _+_, _*_, _-_, _<_, _≤_}
+use Prim.Native.Nat.{ℕ, _+_, _*_, _-_, _%_, _<_, _≤_}
 use mathlib.Core.Path.{_≡_}
 use mathlib.Core.Option.{Option, none, some, Option·getD}
 use mathlib.Core.List.{List, map}
 use Rattle.slots.specs.Steps.{triedBy, afterStep, Marked}
 use Rattle.places.specs.Moves.{Moved}
 use lib.ListN.{length, getD, drop, set}
+use Rattle.plain.specs.Sizes.{keptCount}
 use Rattle.plain.specs.Queue as Q
 use Rattle.plain.specs.Steps as K
 use Rattle.plain.specs.Site as S
@@ -25,6 +26,7 @@ placed s c i v lo hi = record {
   high = hi;
   confirmations = s .confirmations;
   commits = s .commits;
+  kept = s .kept;
 }
 
 -- slot i takes v, and nothing else changes
@@ -37,6 +39,7 @@ withSlot s i v = record {
   high = s .high;
   confirmations = s .confirmations;
   commits = s .commits;
+  kept = s .kept;
 }
 
 -- the slot at the head of class c
@@ -76,7 +79,7 @@ pub record CommitDone (s : Store) (base wrk : List ℕ) (c : ℕ) (t : Store) (b
   pub laid : Laid t
   pub slots : length (t .slots) ≡ length (s .slots)
   pub cells : length base′ ≡ 1024
-  pub site : (e : Q.Entry) → Same (plain t base′ wrk) (S.inClass (plain s base wrk) c 0 (K.commit e (entries (s .slots) (drop 1 (places s c))) (cellsOf wrk c)) .site)
+  pub site : (e : Q.Entry) → Same (plain t base′ wrk) (S.inClass (plain s base wrk) c none (K.commit e (entries (s .slots) (drop 1 (places s c))) (cellsOf wrk c)) .site)
 
 -- class c's queue can be counted: no slot in it has more done than it has operations, and ids differ
 pub record Countable (s : Store) (c : ℕ) : Type 0 where
@@ -99,7 +102,7 @@ pub record PutBack (s : Store) (base wrk : List ℕ) (c : ℕ) (t : Store) (wrk�
   pub own : cellsOf wrk′ c ≡ cellsOf base c
   pub others : (d : ℕ) → (d ≡ c → ⊥) → cellsOf wrk′ d ≡ cellsOf wrk d
 
--- slot i has its number, and one confirmation more is counted
+-- slot i has its number, its id is kept under it, and one confirmation more is counted
 abbrev pub numberedStore : Store → ℕ → ℕ → Store
 numberedStore s i n = record {
   slots = set (s .slots) i (withNumber n (slotAt (s .slots) i));
@@ -109,6 +112,7 @@ numberedStore s i n = record {
   high = s .high;
   confirmations = s .confirmations + 1;
   commits = s .commits;
+  kept = set (s .kept) (n % keptCount) (slotAt (s .slots) i .id);
 }
 
 -- the place of slot i in class c's queue
@@ -122,7 +126,7 @@ pub record FirstWaiting (s : Store) (c p : ℕ) : Type 0 where
   pub before : (k : ℕ) → k < p → 0 < slotAt (s .slots) (getD (s .queue) (128 * c + k) 0) .number
   pub waits : p < lenOf s c → slotAt (s .slots) (getD (s .queue) (128 * c + p) 0) .number ≡ 0
 
--- slot i of class c has its number, its place `from` has moved forward to `to`, and one confirmation more is counted
+-- slot i of class c has its number, its place `from` has moved forward to `to`, its id is kept, and one confirmation more is counted
 pub record Forward (s : Store) (c i n from to : ℕ) (t : Store) : Type 0 where
   pub slots : t .slots ≡ numberedStore s i n .slots
   pub queue : Moved (s .queue) (t .queue) c from to
@@ -130,3 +134,4 @@ pub record Forward (s : Store) (c i n from to : ℕ) (t : Store) : Type 0 where
   pub map : (t .low ≡ s .low) × (t .high ≡ s .high)
   pub confirmations : t .confirmations ≡ s .confirmations + 1
   pub commits : t .commits ≡ s .commits
+  pub kept : t .kept ≡ numberedStore s i n .kept

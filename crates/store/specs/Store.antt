@@ -3,7 +3,7 @@ use Prim.Native.Nat.{ℕ, _<_, _^_}
 use mathlib.Core.Path.{_≡_}
 use mathlib.Core.List.{List}
 use lib.ListN.{length}
-use Rattle.plain.specs.Sizes.{classCount, slotCount, mostOps, word}
+use Rattle.plain.specs.Sizes.{classCount, slotCount, mostOps, word, keptCount}
 use Rattle.slots.specs.declared.Slot.{Slot}
 use Rattle.slots.specs.Meaning.{slotAt}
 
@@ -15,6 +15,7 @@ pub record Store : Type 0 where
   pub high : ℕ
   pub confirmations : ℕ
   pub commits : ℕ
+  pub kept : List ℕ
 
 -- the flat queue places: 128 for each class
 abbrev pub placeCount : ℕ
@@ -33,3 +34,4 @@ pub record Shaped (s : Store) : Type 0 where
   pub lens : length (s .lens) ≡ classCount
   pub low : s .low < 2 ^ 64
   pub high : s .high < 2 ^ 64
+  pub kept : length (s .kept) ≡ keptCount

@@ -1,8 +1,10 @@
 //! A site of plain bytes in the archive's hands, beside the bytes that it should have.
 
-use crate::table::{Field, every_field, len, op, place, site, slot, start_of};
-use shpendorak::raw::{self, ADD, MOST_OPS, MOVE, NEED, NUMBERS, Numbers, PUT, RUN_LENGTH};
+use crate::table::{Field, every_field, kept, len, op, place, site, slot, start_of};
+use shpendorak::raw::{self, ADD, KEPT, MOST_OPS, MOVE, NEED, NUMBERS, Numbers, PUT, RUN_LENGTH};
 
+/// What ids confirmed before are above.
+const OLD_IDS: u64 = 1 << 30;
 /// Bits of a byte.
 const BYTE: usize = u8::BITS as usize;
 
@@ -163,6 +165,7 @@ impl Hosted {
         };
         self.should(slot::number().from(start_of(slot)), number.into());
         self.should(site::confirmations(), number.into());
+        self.should(kept(number), id_of(slot).into());
         self.check(raw::WAITING);
     }
 
@@ -195,12 +198,21 @@ impl Hosted {
         self.check(raw::COMMITTED);
     }
 
-    /// Raises both counts by hand, in the bytes that the table says.
+    /// Raises both counts by hand and keeps an id for each of the last numbers, in the bytes that
+    /// the table says.
     pub fn raise_counts(&mut self, count: u32) {
         for field in [site::confirmations(), site::commits()] {
-            self.should(field, count.into());
-            let bytes = field.at..field.at + field.bytes;
-            self.site.0[bytes.clone()].copy_from_slice(&self.should.0[bytes]);
+            self.put(field, count.into());
         }
+        for number in count - KEPT as u32 + 1..=count {
+            self.put(kept(number), OLD_IDS + u64::from(number));
+        }
+    }
+
+    /// Puts a number into a field, in the site and in what it should be.
+    fn put(&mut self, field: Field, number: u64) {
+        self.should(field, number);
+        let bytes = field.at..field.at + field.bytes;
+        self.site.0[bytes.clone()].copy_from_slice(&self.should.0[bytes]);
     }
 }

@@ -1,6 +1,6 @@
 //! The tables of the structs, written by hand.
 
-use shpendorak::raw::{self, CLASSES, MOST_OPS, SLOTS};
+use shpendorak::raw::{self, CLASSES, KEPT, MOST_OPS, SLOTS};
 
 /// Where a field starts in its struct, and how many bytes it has.
 #[derive(Clone, Copy)]
@@ -60,9 +60,9 @@ macro_rules! table {
 table!(op, Op, 8, code 0 1, cell 1 1, second 2 1, amount 4 4,);
 table!(slot, Slot, 72, id 0 4, class 4 1, count 5 1, ops 8 56, number 64 4, done 68 1, mark 69 1,);
 table!(
-    site, Site, 11_304,
+    site, Site, 12_328,
     slots 0 9_216, queue 9_216 2_048, lens 11_264 16, low 11_280 8, high 11_288 8,
-    confirmations 11_296 4, commits 11_300 4,
+    confirmations 11_296 4, commits 11_300 4, kept 11_304 1_024,
 );
 
 /// Where a slot's struct starts.
@@ -73,6 +73,11 @@ pub fn start_of(slot: usize) -> usize {
 /// A queue place of a class.
 pub fn place(class: usize, place: usize) -> Field {
     site::queue().part(class * SLOTS + place, CLASSES * SLOTS)
+}
+
+/// The place of the id that is kept under a number.
+pub fn kept(number: u32) -> Field {
+    site::kept().part(number as usize % KEPT, KEPT)
 }
 
 /// The length of a class's queue.

@@ -1,5 +1,6 @@
 //! Choices among what a site has, for damage that aims.
 
+use crate::view::{place_of, recent};
 use model::random::Random;
 use shpendorak::raw::{CLASSES, SLOTS, Site, Slot};
 
@@ -22,6 +23,18 @@ pub fn any_slot(
 pub fn any_class(random: &mut Random, allows: impl Fn(usize) -> bool) -> Option<usize> {
     let allowed: Vec<usize> = (0..CLASSES).filter(|&class| allows(class)).collect();
     (!allowed.is_empty()).then(|| random.pick(&allowed))
+}
+
+/// Raises both counts alike and keeps other ids: a sound site mostly stays sound, and after 256 its
+/// numbers are not kept any more.
+pub fn age(random: &mut Random, site: &mut Site, raise: u32) {
+    site.confirmations = site.confirmations.saturating_add(raise);
+    site.commits = site.commits.saturating_add(raise);
+    let queued = site.slots.map(|slot| slot.id);
+    let mut ids = (random.number() | 1..=u32::MAX).filter(|id| !queued.contains(id));
+    for number in recent(site) {
+        site.kept[place_of(number)] = ids.next().unwrap_or(0);
+    }
 }
 
 /// A byte from a least one up to 255.

@@ -88,10 +88,15 @@ fn below(random: &mut Random, end: usize) -> u64 {
     random.pick(&[end, good + BEYOND_8_BITS, good + BEYOND_32_BITS, any, u64::MAX])
 }
 
-/// Mostly a valid record, with a new id or a queued one; else a broken one or one of odd length.
+/// Mostly a valid record, with a new id, a queued or a kept one; else a broken one or one of odd length.
 fn booking(random: &mut Random, site: &Site) -> Vec<u8> {
     let slot = site.slots[random.below(SLOTS)];
-    let id = if is_used(&slot) && random.chance(HALF) { slot.id } else { random.number() | 1 };
+    let (any, kept) = (random.number() | 1, random.pick(&site.kept));
+    let id = match (is_used(&slot) && random.chance(HALF), kept != 0 && random.chance(HALF)) {
+        (true, _) => slot.id,
+        (_, true) => kept,
+        _ => any,
+    };
     let class = random.below(CLASSES) as u8;
     let count = 1 + random.below(MOST_OPS);
     let mut bytes = record::write(&craft::request(random, id, class, count));

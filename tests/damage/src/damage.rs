@@ -1,6 +1,6 @@
 //! The ways to damage a subject.
 
-use crate::aim::HALF;
+use crate::aim::{HALF, age};
 use crate::plain::{from_plain, to_plain};
 use crate::rules::Rule;
 use crate::subject::{FIELDS, Field, Subject, field_of};
@@ -71,14 +71,14 @@ fn take_field(subject: &mut Subject, other: &mut Subject, field: &Field) {
     }
 }
 
-/// Both counts raised alike, up to or near the last number: a sound site stays sound.
+/// Both counts raised alike, up to or near the last number, with other ids kept: a sound site mostly
+/// stays sound.
 pub fn late(random: &mut Random, base: &Subject) -> Damaged {
     let mut subject = base.clone();
     let room = u32::MAX - subject.site.confirmations.max(subject.site.commits);
     let raise = room.saturating_sub(random.pick(&[0, 1, 2]));
-    subject.site.confirmations += raise;
-    subject.site.commits += raise;
-    Damaged { subject, how: format!("both counts raised by {raise}") }
+    age(random, &mut subject.site, raise);
+    Damaged { subject, how: format!("both counts raised by {raise}, other ids kept") }
 }
 
 /// Another sound site: slots change their names, requests with nothing done get other operations,

@@ -1,7 +1,7 @@
 //! A sound subject as the model's plain queues, and back to its arrays.
 
 use crate::subject::Subject;
-use crate::view::queue;
+use crate::view::{kept, place_of, queue, recent};
 use model::answer::Answer;
 use model::record::{Op, Request};
 use model::site::{Class, Entry, Site};
@@ -11,7 +11,8 @@ use shpendorak::raw::{self, CELLS, CLASSES, Numbers, SLOTS, Slot};
 pub fn to_plain(subject: &Subject) -> Site {
     let classes = (0..CLASSES).map(|class| class_of(subject, class)).collect();
     let raw::Site { confirmations, commits, .. } = subject.site;
-    Site { classes, confirmations, commits }
+    let kept = recent(&subject.site).map(|number| kept(&subject.site, number)).collect();
+    Site { classes, confirmations, commits, kept }
 }
 
 /// One class of a sound subject.
@@ -67,6 +68,9 @@ pub fn from_plain(plain: &Site) -> Subject {
     }
     subject.site.confirmations = plain.confirmations;
     subject.site.commits = plain.commits;
+    for (number, id) in recent(&subject.site).zip(&plain.kept) {
+        subject.site.kept[place_of(number)] = *id;
+    }
     subject
 }
 

@@ -7,6 +7,7 @@
 //! site says free. Bytes 6 and 7 of a record and byte 3 of an operation are in no site.
 
 mod heads;
+mod kept;
 mod numbers;
 mod queues;
 mod records;
@@ -25,7 +26,7 @@ pub struct Rule {
 }
 
 /// Every sound rule, in document 01's order; a new rule is a new row.
-pub static RULES: [Rule; 26] = [
+pub static RULES: [Rule; 30] = [
     Rule {
         words: "a free slot is all zero",
         holds: records::free_slots_are_zero,
@@ -151,6 +152,22 @@ pub static RULES: [Rule; 26] = [
         words: "working cells equal the committed where no head is",
         holds: heads::idle_cells_are_equal,
         breach: heads::idle_wrong,
+    },
+    Rule {
+        words: "kept ids are not 0",
+        holds: kept::kept_ids_are_not_zero,
+        breach: kept::kept_zero,
+    },
+    Rule { words: "kept ids differ", holds: kept::kept_ids_differ, breach: kept::kept_twice },
+    Rule {
+        words: "a queued id is kept exactly under its number",
+        holds: kept::queued_ids_are_kept_as_numbered,
+        breach: kept::kept_wrong,
+    },
+    Rule {
+        words: "unused places of kept ids are zero",
+        holds: kept::unused_places_are_zero,
+        breach: kept::unused_place_filled,
     },
 ];
 

@@ -1,6 +1,6 @@
 //! A site with its two runs of cells, and every number in them by its field.
 
-use shpendorak::raw::{CLASSES, MOST_OPS, PLACES, RUN_LENGTH, SLOTS, Site, Slot};
+use shpendorak::raw::{CLASSES, KEPT, MOST_OPS, PLACES, RUN_LENGTH, SLOTS, Site, Slot};
 
 /// What a call is made on: a site and both runs of cells.
 #[derive(Clone, Debug, PartialEq, Eq)]
@@ -66,7 +66,7 @@ pub struct Field {
 const OPS: usize = SLOTS * MOST_OPS;
 
 /// Every number of a subject; a new field of the site is a new row.
-pub static FIELDS: [Field; 18] = [
+pub static FIELDS: [Field; 19] = [
     Field { name: "id", count: SLOTS, spot: |s, at| Spot::Word(&mut s.site.slots[at].id) },
     Field { name: "class", count: SLOTS, spot: |s, at| Spot::Byte(&mut s.site.slots[at].class) },
     Field { name: "count", count: SLOTS, spot: |s, at| Spot::Byte(&mut s.site.slots[at].count) },
@@ -83,6 +83,7 @@ pub static FIELDS: [Field; 18] = [
     Field { name: "high", count: 1, spot: |s, _| Spot::Long(&mut s.site.high) },
     Field { name: "confirmations", count: 1, spot: |s, _| Spot::Word(&mut s.site.confirmations) },
     Field { name: "commits", count: 1, spot: |s, _| Spot::Word(&mut s.site.commits) },
+    Field { name: "kept", count: KEPT, spot: |s, at| Spot::Word(&mut s.site.kept[at]) },
     Field { name: "committed", count: RUN_LENGTH, spot: |s, at| Spot::Word(&mut s.committed[at]) },
     Field { name: "working", count: RUN_LENGTH, spot: |s, at| Spot::Word(&mut s.working[at]) },
 ];
@@ -119,6 +120,7 @@ impl Subject {
             high: 0,
             confirmations: 0,
             commits: 0,
+            kept: [0; KEPT],
         };
         Subject { site, committed: vec![0; RUN_LENGTH], working: vec![0; RUN_LENGTH] }
     }

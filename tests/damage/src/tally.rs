@@ -19,8 +19,8 @@ const ANSWERS: [&str; STARTED as usize] = [
     "unconfirmed",
     "started",
 ];
-/// The refusals of a call are 1 to 12.
-const REFUSALS: usize = Refusal::NoSuchCell as usize;
+/// The last refusal of a call.
+const REFUSALS: usize = Refusal::IdKept as usize;
 
 /// What happened so far.
 #[derive(Clone, Debug, Default)]
@@ -73,14 +73,19 @@ impl Tally {
         self.calls.iter().sum()
     }
 
+    /// The refusals that calls can give, each with how often it was given.
+    fn refusals(&self) -> impl Iterator<Item = (u64, u64)> {
+        (1..).zip(self.refusals).filter(|(number, _)| Refusal::numbered(*number).is_some())
+    }
+
     /// What should have occurred and never did.
     pub fn missing(&self) -> Vec<String> {
         let rules = RULES.iter().zip(self.alone).filter(|(_, count)| *count == 0);
         let answers = ANSWERS.iter().zip(self.answers).filter(|(_, count)| *count == 0);
-        let refusals = (1..).zip(self.refusals).filter(|(_, count)| *count == 0);
+        let refusals = self.refusals().filter(|(_, count)| *count == 0);
         let rules = rules.map(|(rule, _)| format!("broken alone: {}", rule.words));
         let answers = answers.map(|(word, _)| word.to_string());
-        let refusals = refusals.map(|(number, _): (u32, u64)| format!("refused {number}"));
+        let refusals = refusals.map(|(number, _)| format!("refused {number}"));
         let numbers = (self.numbers < spots()).then(|| "each number damaged".to_string());
         rules.chain(answers).chain(refusals).chain(numbers).collect()
     }
@@ -95,7 +100,7 @@ impl Tally {
         writeln!(out, "each of the {} numbers of a site damaged {times} times or more", spots())?;
         line(out, "calls", NAMES.iter().zip(self.calls))?;
         line(out, "answers", ANSWERS.iter().zip(self.answers))?;
-        line(out, "refused", (1..=REFUSALS).zip(self.refusals))?;
+        line(out, "refused", self.refusals())?;
         writeln!(out, "{:<54}{:>8}{:>8}", "sound rule", "broken", "alone")?;
         for ((rule, broken), alone) in RULES.iter().zip(self.broken).zip(self.alone) {
             writeln!(out, "{:<54}{broken:>8}{alone:>8}", rule.words)?;

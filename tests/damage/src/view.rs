@@ -4,7 +4,8 @@
 //! slot is used if its id is not 0.
 
 use crate::subject::Subject;
-use shpendorak::raw::{CLASSES, MOST_OPS, Op, SLOTS, Site, Slot};
+use shpendorak::raw::{CLASSES, KEPT, MOST_OPS, Op, SLOTS, Site, Slot};
+use std::ops::RangeInclusive;
 
 /// Whether a slot is used.
 pub fn is_used(slot: &Slot) -> bool {
@@ -55,6 +56,22 @@ pub fn head(site: &Site, class: usize) -> Option<&Slot> {
 /// Whether a slot is the head of a class.
 pub fn is_head(site: &Site, slot: usize) -> bool {
     (0..CLASSES).any(|class| queue(site, class).first().is_some_and(|&at| usize::from(at) == slot))
+}
+
+/// The numbers that were given last, at most 256.
+pub fn recent(site: &Site) -> RangeInclusive<u64> {
+    let last = u64::from(site.confirmations);
+    last.saturating_sub(KEPT as u64) + 1..=last
+}
+
+/// Where the id of a number stands among the kept ones.
+pub fn place_of(number: u64) -> usize {
+    (number % KEPT as u64) as usize
+}
+
+/// The id that is kept under a number.
+pub fn kept(site: &Site, number: u64) -> u32 {
+    site.kept[place_of(number)]
 }
 
 /// Whether all values differ.

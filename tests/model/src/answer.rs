@@ -21,6 +21,9 @@ pub const NOTHING_TO_DO: u8 = 11;
 /// The cell is above 63.
 pub const NO_SUCH_CELL: u8 = 12;
 
+/// The id offered was confirmed under one of the last 256 numbers.
+pub const ID_KEPT: u8 = 14;
+
 /// What a call answers.
 #[derive(Clone, Copy, Debug, PartialEq, Eq)]
 pub enum Answer {

@@ -4,10 +4,14 @@ use crate::craft::{self, Damage, DAMAGES, ODD_CELLS, ODD_CLASSES};
 use crate::event::{Event, CONFIRM, OFFER, READ, WORK};
 use crate::random::Random;
 use crate::record::{self, CLASSES, CLASS_AT, MAX_OPS, RECORD_BYTES};
-use crate::site::{Entry, Site};
+use crate::site::{Entry, Site, KEPT};
 
-/// The ids used where ids are few; they differ in their bytes.
-const FEW_IDS: [u32; 7] = [1, 2, 256, 65_536, 1 << 24, u32::MAX - 1, u32::MAX];
+/// How many ids are used where ids are few: somewhat more than are kept.
+const FEW_IDS: u32 = 320;
+/// What those ids are multiples of; they differ in all their bytes.
+const FEW_IDS_STEP: u32 = 0x0080_0903;
+/// How many confirmations ago an id was confirmed that is offered again: around the last one kept.
+const AGO: [usize; 6] = [1, 2, 255, 256, 257, 258];
 /// Kinds of event that do not exist.
 const ODD_KINDS: [u8; 7] = [0, 5, 6, 7, 128, 254, 255];
 
@@ -31,6 +35,8 @@ pub struct Habits {
     pub few_ids: bool,
     /// Whether every request has seven operations.
     pub long: bool,
+    /// Whether every request has one operation.
+    pub short: bool,
 }
 
 /// Out of a hundred events, how many offer, confirm and work; the rest read.
@@ -55,13 +61,25 @@ pub struct Maker {
     pub habits: Habits,
     /// How many records were broken so far.
     broken: usize,
+    /// The ids confirmed so far, by their number.
+    confirmed: Vec<u32>,
 }
 
 impl Maker {
     /// A maker that starts from a seed and a fresh site.
     pub fn new(seed: u64) -> Maker {
-        let habits = Habits { classes: all_classes(), few_ids: false, long: false };
-        Maker { random: Random::new(seed), site: Site::fresh(), habits, broken: 0 }
+        let habits = Habits { classes: all_classes(), few_ids: false, long: false, short: false };
+        let random = Random::new(seed);
+        Maker { random, site: Site::fresh(), habits, broken: 0, confirmed: Vec::new() }
+    }
+
+    /// An event happens to the maker's own site.
+    pub fn act(&mut self, event: &Event) {
+        let before = self.site.confirmations;
+        event.act(&mut self.site);
+        if self.site.confirmations != before {
+            self.confirmed.extend(self.site.kept.back());
+        }
     }
 
     /// An offer, confirm, work or read that suits the site.
@@ -107,6 +125,18 @@ impl Maker {
         Event { record, ..self.event(OFFER) }
     }
 
+    /// An offer of an id that was confirmed some confirmations ago, kept still or not.
+    pub fn offer_confirmed(&mut self) -> Event {
+        let any = 1 + self.random.below(2 * KEPT);
+        let usual = self.random.pick(&AGO);
+        let ago = if self.random.chance(HALF) { any } else { usual };
+        let Some(place) = self.confirmed.len().checked_sub(ago) else {
+            return self.offer();
+        };
+        let record = self.valid_record(self.confirmed[place]);
+        Event { record, ..self.event(OFFER) }
+    }
+
     /// An offer of a record broken in the next way in turn.
     pub fn offer_broken(&mut self) -> Event {
         let mut offer =
@@ -119,25 +149,29 @@ impl Maker {
     /// The bytes of a valid request in one of the usual classes.
     fn valid_record(&mut self, id: u32) -> [u8; RECORD_BYTES] {
         let class = self.random.pick(&self.habits.classes);
-        let count = if self.habits.long { MAX_OPS } else { 1 + self.random.below(MAX_OPS) };
+        let count = match (self.habits.long, self.habits.short) {
+            (true, _) => MAX_OPS,
+            (_, true) => 1,
+            _ => 1 + self.random.below(MAX_OPS),
+        };
         record::write(&craft::request(&mut self.random, id, class, count))
     }
 
     /// An id: one of a handful, queued or not, or one that is not queued.
     fn id_to_offer(&mut self) -> u32 {
         if self.habits.few_ids {
-            self.random.pick(&FEW_IDS)
+            FEW_IDS_STEP * (1 + self.random.number() % FEW_IDS)
         } else {
             self.free_id()
         }
     }
 
-    /// An id that is not queued.
+    /// An id that is neither queued nor kept.
     fn free_id(&mut self) -> u32 {
         loop {
             let small = self.random.chance(HALF);
             let id = if small { self.random.number() % SMALL_IDS } else { self.random.number() };
-            if id != 0 && self.site.find(id).is_none() {
+            if id != 0 && self.site.find(id).is_none() && !self.site.kept.contains(&id) {
                 return id;
             }
         }

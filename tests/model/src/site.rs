@@ -1,10 +1,13 @@
-//! The site in its plainest form: a queue and two runs of cells per class, two counts.
+//! The site in its plainest form: a queue and two runs of cells per class, two counts, the ids last confirmed.
 
 use crate::answer::*;
 use crate::record::{parse, Op, Request, CELLS, CLASSES};
+use std::collections::VecDeque;
 
 /// Slots of a site, shared by all classes.
 pub const SLOTS: usize = 128;
+/// A site keeps the ids of as many of its last confirmations.
+pub const KEPT: usize = 256;
 
 /// The 64 cells of a class.
 pub type Cells = [u32; CELLS];
@@ -56,13 +59,16 @@ pub struct Site {
     pub confirmations: u32,
     /// How many requests committed.
     pub commits: u32,
+    /// The ids of the last confirmations, that of the latest number last.
+    pub kept: VecDeque<u32>,
 }
 
 impl Site {
     /// A site with nothing queued, both counts 0 and all cells 0.
     pub fn fresh() -> Site {
         let class = Class { queue: Vec::new(), committed: [0; CELLS], working: [0; CELLS] };
-        Site { classes: vec![class; CLASSES], confirmations: 0, commits: 0 }
+        let kept = VecDeque::new();
+        Site { classes: vec![class; CLASSES], confirmations: 0, commits: 0, kept }
     }
 
     /// Offers a record: it joins the end of its class queue in the lowest free slot.
@@ -72,6 +78,9 @@ impl Site {
         };
         if self.find(request.id).is_some() {
             return Answer::Refused(ID_QUEUED);
+        }
+        if self.kept.contains(&request.id) {
+            return Answer::Refused(ID_KEPT);
         }
         let Some(slot) = self.lowest_free_slot() else {
             return Answer::Refused(SITE_FULL);
@@ -100,6 +109,7 @@ impl Site {
         entry.number = Some(number);
         let commits_now = at == 0 && entry.is_executed();
         self.confirmations += 1;
+        self.keep(id);
         if commits_now {
             return self.commit(class, number);
         }
@@ -165,6 +175,14 @@ impl Site {
             let at = class.queue.iter().position(|entry| entry.request.id == id)?;
             Some((number, at))
         })
+    }
+
+    /// Keeps the id that the latest number was given to, and no more than 256.
+    fn keep(&mut self, id: u32) {
+        self.kept.push_back(id);
+        if self.kept.len() > KEPT {
+            self.kept.pop_front();
+        }
     }
 
     /// The lowest-numbered slot that no queued request stands in.

@@ -1,7 +1,7 @@
 //! The sound rules, checked on the model by means of their own.
 
 use crate::record::{Op, CELLS, CLASSES, MAX_OPS};
-use crate::site::{Cells, Class, Entry, Site, SLOTS};
+use crate::site::{Cells, Class, Entry, Site, KEPT, SLOTS};
 use std::collections::HashSet;
 
 /// The last class.
@@ -15,7 +15,7 @@ const SPAN: u64 = 1 << 32;
 type Rule = (fn(&Site) -> bool, &'static str);
 
 /// The sound rules; a later one may count on those before it.
-const RULES: [Rule; 16] = [
+const RULES: [Rule; 20] = [
     (|site| site.classes.len() == CLASSES, "there are 16 classes"),
     (|site| site.entries().all(is_valid), "each record is valid"),
     (|site| site.classes.iter().all(short_enough), "no queue is longer than 128"),
@@ -32,6 +32,10 @@ const RULES: [Rule; 16] = [
     (|site| site.classes.iter().all(confirmed_head_open), "a confirmed head is not executed"),
     (|site| site.classes.iter().all(declined_is_right), "declined exactly if one declined"),
     (|site| site.classes.iter().all(working_is_right), "working cells follow the head"),
+    (Site::as_many_kept, "the ids of the last 256 confirmations are kept"),
+    (|site| !site.kept.contains(&0), "kept ids are not 0"),
+    (|site| differ(site.kept.iter().copied()), "kept ids differ"),
+    (|site| site.entries().all(|e| site.kept_as_numbered(e)), "a kept id has its number"),
 ];
 
 impl Site {
@@ -71,6 +75,19 @@ impl Site {
     fn counts_agree(&self) -> bool {
         let total = u64::from(self.commits) + self.numbers().count() as u64;
         u64::from(self.confirmations) == total
+    }
+
+    /// As many ids are kept as numbers were given, at most 256.
+    fn as_many_kept(&self) -> bool {
+        self.kept.len() == KEPT.min(self.confirmations as usize)
+    }
+
+    /// A queued request's id is kept exactly if its number is, and under that number.
+    fn kept_as_numbered(&self, entry: &Entry) -> bool {
+        let first = u64::from(self.confirmations) + 1 - self.kept.len() as u64;
+        let at = self.kept.iter().position(|&id| id == entry.request.id);
+        let number = entry.number.map(u64::from).filter(|&number| number >= first);
+        at.map(|place| first + place as u64) == number
     }
 }
 

@@ -25,6 +25,8 @@ pub enum Kind {
     Single,
     /// Sensible traffic with a handful of ids.
     Ids,
+    /// Short requests that come and go, and ids confirmed before offered again.
+    Again,
     /// Sensible traffic whose last event is cut short.
     Tails,
     /// Unknown kinds among sensible traffic.
@@ -34,7 +36,7 @@ pub enum Kind {
 }
 
 /// All kinds with their names; the first is the one that covers most alone.
-pub const KINDS: [(Kind, &str); 11] = [
+pub const KINDS: [(Kind, &str); 12] = [
     (Kind::Mixed, "mixed"),
     (Kind::Sensible, "sensible"),
     (Kind::Numbers, "numbers"),
@@ -43,13 +45,14 @@ pub const KINDS: [(Kind, &str); 11] = [
     (Kind::Full, "full"),
     (Kind::Single, "single"),
     (Kind::Ids, "ids"),
+    (Kind::Again, "again"),
     (Kind::Tails, "tails"),
     (Kind::Unknown, "unknown"),
     (Kind::Random, "random"),
 ];
 
 /// The kinds that pieces of a mixed stream have.
-const PIECES: [Kind; 9] = [
+const PIECES: [Kind; 10] = [
     Kind::Sensible,
     Kind::Numbers,
     Kind::Damaged,
@@ -57,6 +60,7 @@ const PIECES: [Kind; 9] = [
     Kind::Full,
     Kind::Single,
     Kind::Ids,
+    Kind::Again,
     Kind::Unknown,
     Kind::Random,
 ];
@@ -75,6 +79,8 @@ const FULL_LONG: usize = 50;
 const FULL_AGAIN: usize = 5;
 /// Out of a hundred events of a full house, how many offer a broken record.
 const FULL_BROKEN: usize = 5;
+/// Out of a hundred events that offer ids again, how many do.
+const AGAIN: usize = 15;
 /// Out of a hundred events of a special kind, how many are special.
 const SPECIAL: usize = 50;
 
@@ -84,6 +90,8 @@ const USUAL_QUEUED: usize = 24;
 const GROWING: Weights = Weights { offer: 35, confirm: 6, work: 52 };
 /// Sensible traffic while many requests are queued.
 const SHRINKING: Weights = Weights { offer: 5, confirm: 14, work: 74 };
+/// Short requests that come and go.
+const PASSING: Weights = Weights { offer: 34, confirm: 32, work: 33 };
 /// A full house before it is full.
 const FILLING: Weights = Weights { offer: 88, confirm: 4, work: 4 };
 /// A full house that gathers confirmations.
@@ -135,7 +143,7 @@ impl Stream {
             classes.swap_remove(self.maker.random.below(classes.len()));
         }
         let long = kind == Kind::Full && self.maker.random.chance(FULL_LONG);
-        Habits { classes, few_ids: kind == Kind::Ids, long }
+        Habits { classes, few_ids: kind == Kind::Ids, long, short: kind == Kind::Again }
     }
 
     /// The next event of a kind.
@@ -144,6 +152,7 @@ impl Stream {
         match kind {
             Kind::Mixed => self.mixed(),
             Kind::Full => self.full_house(),
+            Kind::Again => self.again(),
             Kind::Numbers if special => self.maker.confirm_wrong(),
             Kind::Damaged if special => self.maker.offer_broken(),
             Kind::Odd if special => self.maker.odd(),
@@ -168,6 +177,14 @@ impl Stream {
     fn sensible(&mut self) -> Event {
         let few = self.maker.site.queued() < USUAL_QUEUED;
         self.maker.traffic(if few { GROWING } else { SHRINKING })
+    }
+
+    /// Short requests that come and go, with ids that were confirmed before.
+    fn again(&mut self) -> Event {
+        if self.maker.random.chance(AGAIN) {
+            return self.maker.offer_confirmed();
+        }
+        self.maker.traffic(PASSING)
     }
 
     /// Traffic that fills the site and keeps it full.
@@ -206,7 +223,7 @@ impl Iterator for Stream {
     fn next(&mut self) -> Option<Vec<u8>> {
         self.left = self.left.checked_sub(1)?;
         let event = self.event(self.kind);
-        event.act(&mut self.maker.site);
+        self.maker.act(&event);
         let mut bytes = event.encode().to_vec();
         if self.left == 0 && self.kind == Kind::Tails {
             bytes.truncate(1 + self.maker.random.below(EVENT_BYTES - 1));

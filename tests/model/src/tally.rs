@@ -1,7 +1,7 @@
 //! Counts of what the answers were.
 
-use crate::answer::{Answer, BAD_RECORD, NUMBERS_USED_UP};
-use crate::event::{word_of, BAD_EVENT, WORDS};
+use crate::answer::{Answer, BAD_RECORD, ID_KEPT, NUMBERS_USED_UP};
+use crate::event::{word_of, WORDS};
 use std::io::{self, Write};
 
 /// How often each answer occurred.
@@ -12,7 +12,7 @@ pub struct Tally {
     /// How often each word occurred.
     words: [u64; WORDS.len()],
     /// How often each refusal occurred, by its number.
-    refusals: [u64; BAD_EVENT as usize + 1],
+    refusals: [u64; ID_KEPT as usize + 1],
     /// How many commits were declined.
     declined: u64,
     /// How many confirmations put a head back.
@@ -68,7 +68,7 @@ impl Tally {
 
 /// The refusals a driving program can reach: 6 would take 4,294,967,295 confirmations.
 fn reachable() -> impl Iterator<Item = u8> {
-    (BAD_RECORD..=BAD_EVENT).filter(|&number| number != NUMBERS_USED_UP)
+    (BAD_RECORD..=ID_KEPT).filter(|&number| number != NUMBERS_USED_UP)
 }
 
 /// Writes one row of the table.

@@ -40,6 +40,7 @@ impl Takes for Plain {
             high: 0,
             confirmations: 0,
             commits: 0,
+            kept: [0; KEPT],
         };
         Plain(Held { site, committed: vec![0; RUN], working: vec![0; RUN] })
     }
@@ -82,6 +83,9 @@ pub fn offer(site: &mut Site, committed: &[u32], working: &[u32], bytes: &[u8]) 
     if slot_of(site, id.into()).is_some() {
         return Err(ID_QUEUED);
     }
+    if site.kept.contains(&id) {
+        return Err(ID_KEPT);
+    }
     let slot = lowest_free(site).ok_or(SITE_FULL)?;
     site.slots[usize::from(slot)] = taken;
     set_used(site, slot, true);
@@ -116,6 +120,7 @@ pub fn confirm(
     let head = usize::from(site.queue[SLOTS * class]);
     site.confirmations = next;
     site.slots[at].number = next;
+    site.kept[next as usize % KEPT] = id;
     if head == at && done == count {
         return Ok(commit(site, committed, working, class));
     }

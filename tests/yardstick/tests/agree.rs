@@ -66,8 +66,14 @@ fn head(site: &mut Site) -> &mut Slot {
     &mut site.slots[usize::from(site.queue[SLOTS * class])]
 }
 
+/// The id of a waiting request.
+fn waiting(site: &Site) -> u32 {
+    let mut slots = site.slots.iter().filter(|slot| slot.id != 0);
+    slots.find(|slot| slot.number == 0).expect("a request waits").id
+}
+
 /// A way to break each rule of a sound site.
-const SPOILS: [(&str, Spoil); 22] = [
+const SPOILS: [(&str, Spoil); 26] = [
     ("a free slot is all zero", |held| held.site.slots[127].ops[6].amount = 1),
     ("a class is below 16", |held| head(&mut held.site).class = 16),
     ("a request has operations", |held| head(&mut held.site).count = 0),
@@ -89,6 +95,10 @@ const SPOILS: [(&str, Spoil); 22] = [
     ("commits are no more than confirmations", |held| held.site.commits = u32::MAX),
     ("no more is done than there is", |held| head(&mut held.site).done = 8),
     ("a mark says what declined", |held| head(&mut held.site).mark ^= 1),
+    ("kept ids are not 0", |held| held.site.kept[1] = 0),
+    ("kept ids differ", |held| held.site.kept[1] = held.site.kept[2]),
+    ("a waiting request's id is not kept", |held| held.site.kept[1] = waiting(&held.site)),
+    ("unused places of kept ids are zero", |held| held.site.kept[0] = 7),
     ("working cells follow from committed ones", |held| held.working[1_023] ^= 1),
 ];
 

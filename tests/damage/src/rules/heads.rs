@@ -5,7 +5,7 @@
 
 use crate::aim::{any_class, any_slot, byte_from};
 use crate::subject::Subject;
-use crate::view::{head, is_confirmed, is_head, is_used, ops_and_past, used};
+use crate::view::{head, is_confirmed, is_head, is_used, ops_and_past, place_of, used};
 use model::random::Random;
 use shpendorak::raw::{ADD, CELLS, CLASSES, MOVE, NEED, Op, PUT, Site, Slot};
 
@@ -79,6 +79,7 @@ pub fn executed_and_confirmed(random: &mut Random, subject: &mut Subject) {
     if let Some(at) = any_slot(random, site, |at, _| is_executed_head(site, at)) {
         site.confirmations = site.confirmations.wrapping_add(1);
         site.slots[at].number = site.confirmations;
+        site.kept[place_of(site.confirmations.into())] = site.slots[at].id;
     }
 }
 

@@ -1,10 +1,13 @@
 //! The sound rules about ids, definitive numbers and the two counts.
 
-use crate::aim::{HALF, any_slot};
+use crate::aim::{HALF, age, any_slot};
 use crate::subject::Subject;
 use crate::view::{differ, is_confirmed, is_used, queue, queued, used};
 use model::random::Random;
 use shpendorak::raw::{CLASSES, SLOTS, Site, Slot};
+
+/// So many confirmations later no number is kept any more.
+const LONG_AGO: u32 = 1_000;
 
 /// Ids differ.
 pub fn ids_differ(subject: &Subject) -> bool {
@@ -76,9 +79,10 @@ pub fn numbers_differ(subject: &Subject) -> bool {
     differ(numbers(subject))
 }
 
-/// A confirmed request gets the number of one of another class.
+/// A confirmed request gets the number of one of another class, both no longer kept.
 pub fn equal_numbers(random: &mut Random, subject: &mut Subject) {
     let site = &mut subject.site;
+    age(random, site, LONG_AGO);
     if let Some(at) = any_slot(random, site, |_, slot| is_confirmed(slot)) {
         let Slot { number, class, .. } = site.slots[at];
         let elsewhere = |_, slot: &Slot| is_confirmed(slot) && slot.class != class;
@@ -93,9 +97,10 @@ pub fn numbers_are_counted(subject: &Subject) -> bool {
     numbers(subject).all(|number| (1..=subject.site.confirmations).contains(&number))
 }
 
-/// A confirmed request gets a number above the count of confirmations.
+/// A confirmed request whose number is no longer kept gets one above the count of confirmations.
 pub fn number_above_count(random: &mut Random, subject: &mut Subject) {
     let site = &mut subject.site;
+    age(random, site, LONG_AGO);
     if let Some(at) = any_slot(random, site, |_, slot| is_confirmed(slot)) {
         let above = site.confirmations.checked_add(1 + random.byte() as u32);
         site.slots[at].number = above.unwrap_or(u32::MAX);

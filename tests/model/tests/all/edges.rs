@@ -9,14 +9,14 @@ use model::site::Site;
 fn site_with(cells: &[u32]) -> Site {
     let mut site = Site::fresh();
     for (cell, &amount) in (0..).zip(cells) {
-        through(&mut site, 1, 0, &[put(cell, amount)]);
+        through(&mut site, 0, &[put(cell, amount)]);
     }
     site
 }
 
 /// Carries a request of one operation through in class 0; whether it declined.
 fn one(site: &mut Site, op: Op) -> bool {
-    through(site, 1, 0, &[op])
+    through(site, 0, &[op])
 }
 
 /// The first two committed cells of class 0.
@@ -84,9 +84,9 @@ fn need_passes_at_the_amount_and_declines_below() {
 #[test]
 fn a_declining_need_after_a_put_leaves_the_committed_cell() {
     let mut site = site_with(&[3]);
-    assert!(through(&mut site, 1, 0, &[put(0, 8), need(0, 9), put(1, 7)]));
+    assert!(through(&mut site, 0, &[put(0, 8), need(0, 9), put(1, 7)]));
     assert_eq!(two_cells(&site), [3, 0]);
-    assert!(!through(&mut site, 1, 0, &[put(0, 8), need(0, 8)]));
+    assert!(!through(&mut site, 0, &[put(0, 8), need(0, 8)]));
     assert_eq!(two_cells(&site), [8, 0]);
 }
 

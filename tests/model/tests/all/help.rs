@@ -31,6 +31,9 @@ pub fn request(id: u32, class: u8, ops: &[Op]) -> Request {
     Request { id, class, ops: ops.to_vec() }
 }
 
+/// The id of the first request that is taken to its commit at once.
+pub const FIRST_ID: u32 = 1_000_000;
+
 /// Offers a request.
 pub fn offer(site: &mut Site, id: u32, class: u8, ops: &[Op]) -> Answer {
     site.offer(&write(&request(id, class, ops)))
@@ -47,8 +50,9 @@ pub fn work(site: &mut Site, class: u8, times: usize) -> Answer {
     answers.last().expect("at least one work call")
 }
 
-/// Offers, confirms and works a request to its commit; whether it declined.
-pub fn through(site: &mut Site, id: u32, class: u8, ops: &[Op]) -> bool {
+/// Offers, confirms and works a request with a new id to its commit; whether it declined.
+pub fn through(site: &mut Site, class: u8, ops: &[Op]) -> bool {
+    let id = FIRST_ID + site.confirmations;
     offer(site, id, class, ops);
     confirm(site, id);
     match work(site, class, ops.len()) {

@@ -6,6 +6,7 @@ mod edges;
 mod errors;
 mod event;
 mod help;
+mod kept;
 mod ledger;
 mod record;
 mod refusals;

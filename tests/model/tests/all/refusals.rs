@@ -31,6 +31,7 @@ fn used_up() -> Site {
     let mut site = site();
     site.commits = u32::MAX - 1;
     site.confirmations = u32::MAX;
+    site.kept = (1_000..1_256).collect();
     site.check();
     site
 }
@@ -80,6 +81,7 @@ fn the_last_number_of_all_is_taken() {
     let mut site = used_up();
     site.commits -= 1;
     site.confirmations -= 1;
+    site.check();
     let answer = Answer::Committed { id: 3, number: u32::MAX, declined: false, slot: 2 };
     assert_eq!(site.confirm(3, u32::MAX), answer);
     site.check();
@@ -133,10 +135,9 @@ fn look_answers_w_or_unconfirmed_or_8() {
 }
 
 #[test]
-fn an_id_may_be_used_again_as_soon_as_it_has_committed() {
+fn an_id_that_has_committed_is_kept_and_not_taken_again() {
     let mut site = site();
-    assert_eq!(offer(&mut site, 3, 5, &[put(0, 1)]), Answer::Refused(ID_QUEUED));
+    refused(site.clone(), ID_QUEUED, |site| offer(site, 3, 5, &[put(0, 1)]));
     confirm(&mut site, 3);
-    let answer = Answer::Queued { id: 3, class: 5, place: 1, slot: 2 };
-    assert_eq!(offer(&mut site, 3, 5, &[put(0, 1)]), answer);
+    refused(site, ID_KEPT, |site| offer(site, 3, 5, &[put(0, 1)]));
 }

@@ -38,6 +38,7 @@ fn alone(site: &Site, class: usize) -> Site {
     let confirmed = other.entries().filter(|entry| entry.number.is_some()).count();
     other.confirmations = site.confirmations;
     other.commits = site.confirmations - confirmed as u32;
+    other.kept = site.kept.clone();
     other.check();
     other
 }

@@ -87,7 +87,7 @@ fn one_class_and_few_ids_keep_to_theirs() {
     let mut run = Run::fresh();
     for bytes in Stream::new(Kind::Ids, 4, 1_000) {
         run.take(&bytes);
-        assert!(run.site.queued() <= 7);
+        assert!(run.site.entries().all(|entry| entry.request.id % 0x0080_0903 == 0));
     }
     assert!(run.site.commits > 50);
 }

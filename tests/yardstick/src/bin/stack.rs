@@ -71,6 +71,7 @@ impl Table {
         unsound.site.lens[0] = TOO_LONG;
         let mut used_up = Plain::fresh().held().clone();
         (used_up.site.confirmations, used_up.site.commits) = (u32::MAX, u32::MAX);
+        used_up.site.kept = std::array::from_fn(|place| 1 + place as u32);
         for mut spoiled in [short, unsound, used_up] {
             self.take(&mut spoiled, asked);
         }

@@ -5,6 +5,9 @@ use crate::plain::{DECLINED, FREE};
 use crate::raw::*;
 use model::record::{CELLS, MOVE, PUT};
 
+/// How many marks tell ids apart.
+const MARKS: usize = 4096;
+
 /// Whether the site is sound with its cells.
 pub fn sound(site: &Site, committed: &[u32], working: &[u32]) -> bool {
     site.slots.iter().all(slot_ok)
@@ -16,6 +19,7 @@ pub fn sound(site: &Site, committed: &[u32], working: &[u32]) -> bool {
         && in_order(site)
         && counts_agree(site)
         && cells_ok(site, committed, working)
+        && kept_ok(site)
 }
 
 /// The queue of a class, head first.
@@ -108,6 +112,42 @@ fn follows(before: &Slot, slot: &Slot) -> bool {
 fn counts_agree(site: &Site) -> bool {
     let confirmed = site.slots.iter().filter(|slot| slot.number != 0).count();
     site.confirmations.checked_sub(site.commits).is_some_and(|open| open as usize == confirmed)
+}
+
+/// Whether the kept ids follow their rules.
+fn kept_ok(site: &Site) -> bool {
+    let count = site.confirmations as usize;
+    let in_use = |place: usize| count >= KEPT || (1..=count).contains(&place);
+    let filled = site.kept.iter().enumerate().all(|(place, &id)| in_use(place) == (id != 0));
+    let mut marks = [0; MARKS];
+    filled
+        && mark(&site.kept, &mut marks)
+        && site.slots.iter().all(|slot| matches(site, &marks, slot))
+}
+
+/// Whether kept ids differ; each is marked.
+fn mark(kept: &[u32; KEPT], marks: &mut [u8; MARKS]) -> bool {
+    for (place, &id) in kept.iter().enumerate() {
+        if stands(&kept[..place], marks, id) {
+            return false;
+        }
+        marks[id as usize % MARKS] = 1;
+    }
+    true
+}
+
+/// Whether an id, but 0, is among some that are marked.
+fn stands(kept: &[u32], marks: &[u8; MARKS], id: u32) -> bool {
+    id != 0 && marks[id as usize % MARKS] != 0 && kept.contains(&id)
+}
+
+/// Whether a slot has a kept id exactly if its number is kept, and then the one under it.
+fn matches(site: &Site, marks: &[u8; MARKS], slot: &Slot) -> bool {
+    let ago = site.confirmations.checked_sub(slot.number);
+    if slot.number != 0 && ago.is_some_and(|ago| (ago as usize) < KEPT) {
+        return site.kept[slot.number as usize % KEPT] == slot.id;
+    }
+    !stands(&site.kept, marks, slot.id)
 }
 
 /// Whether the working cells are the committed ones with the head's done operations carried out on them.

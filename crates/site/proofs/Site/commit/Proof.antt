@@ -69,15 +69,15 @@ returns c =
     record {
       laid =
           commit-laid s _ w (pre· .laid) k i ps (pre· .class) head (rw (free-slot· .ensures)) refl (take-head· .ensures .own)
-          (take-head· .ensures .others) (with-free· .ensures);
+          (take-head· .ensures .others) (with-free· .ensures) refl refl;
       slots = length-set (s .slots) i _;
       cells = copy-class· .kept .0 ∙ pre· .cells .0;
       site =
           λ e. commit-means s _ w (pre· .laid) k i ps (pre· .class) head (rw (free-slot· .ensures)) refl (take-head· .ensures .own)
-          (take-head· .ensures .others) (with-free· .ensures)
+          (take-head· .ensures .others) (with-free· .ensures) refl refl
           base wrk (copy-class· .last .0)
           (copied base wrk (copy-class· .last .0) k (pre· .class) (pre· .cells .0) (pre· .cells .1) (copy-class· .ensures))
-          (uncopied base wrk (copy-class· .last .0) k (pre· .class) (pre· .cells .0) (pre· .cells .1) (copy-class· .ensures)) 0 e (omega arith) refl;
+          (uncopied base wrk (copy-class· .last .0) k (pre· .class) (pre· .cells .0) (pre· .cells .1) (copy-class· .ensures)) e refl;
     }
 
 pub commit-spec : {M : Type 1} → statement M

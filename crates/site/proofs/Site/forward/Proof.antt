@@ -14,6 +14,7 @@ returns c = let numbered· = c .before .before .numbered in record {
   map = (ap (λ (z : Store). z .low) (numbered· .ensures), ap (λ (z : Store). z .high) (numbered· .ensures));
   confirmations = ap (λ (z : Store). z .confirmations) (numbered· .ensures);
   commits = ap (λ (z : Store). z .commits) (numbered· .ensures);
+  kept = ap (λ (z : Store). z .kept) (numbered· .ensures);
 }
 
 pub forward-spec : {M : Type 1} → statement M

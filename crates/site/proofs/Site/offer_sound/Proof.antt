@@ -9,7 +9,7 @@ use Rattle.site.specs.Held.{store, stateOf}
 use Rattle.site.proofs.Shape.{shaped}
 use borrow.Author.Tests.{not-true, not-false}
 use Rattle.store.proofs.Canonical.{has-id, has-class}
-use Rattle.store.proofs.Offered.{bad-record, id-queued, slots-full, here, fits, offered-as}
+use Rattle.store.proofs.Offered.{bad-record, id-queued, id-kept, slots-full, here, fits, offered-as}
 use borrow.Author.Needs.{needs}
 use Rattle.site.proofs.Site.offer_sound.Statement.{statement}
 use Rattle.site.proofs.Site.offer_sound.Tie as tie
@@ -19,11 +19,12 @@ not-full lo hi n e ne = omega (arith, count-le (usedOf lo hi), used-length lo hi
 
 returns : tie.Need-returns
 returns c =
-    let c₁ = c .before .before .before .before .before .before in
-    let args· = c₁ .args in
-    let pre· = c₁ .pre in
-    let read-record· = c .before .before .read-record in
-    bad-record (stateOf (args· .t1) (now (args· .committed)) (now (args· .working))) (shaped (args· .t1) _ (c₁ .good .0)) (pre· .0) (pre· .1)
+    let c₁ = c .before .before in
+    let c₂ = c₁ .before .before .before .before in
+    let args· = c₂ .args in
+    let pre· = c₂ .pre in
+    let read-record· = c₁ .read-record in
+    bad-record (stateOf (args· .t1) (now (args· .committed)) (now (args· .working))) (shaped (args· .t1) _ (c₂ .good .0)) (pre· .0) (pre· .1)
     (args· .bytes .now) (sym (read-record· .ensures .0 .ok-is) ∙ not-true (read-record· .result .ok) (c .if1 .taken))
 
 returns-2 : tie.Need-returns-2
@@ -43,37 +44,65 @@ returns-2 c =
 
 returns-3 : tie.Need-returns-3
 returns-3 c =
-    let c₁ = c .before .before .before in
-    let c₂ = c₁ .before .before in
-    let c₃ = c₂ .before .before in
-    let c₄ = c₃ .before .before .before .before in
-    let args· = c₄ .args in
-    let pre· = c₄ .pre in
-    let read-record· = c₃ .read-record in
-    let if1· = c₂ .if1 in
-    slots-full (stateOf (args· .t1) (now (args· .committed)) (now (args· .working))) (shaped (args· .t1) _ (c₄ .good .0)) (pre· .0) (pre· .1)
-    (args· .bytes .now) (sym (read-record· .ensures .0 .ok-is) ∙ not-false (read-record· .result .ok) (if1· .left)) (read-record· .result .slot)
-    (read-record· .ensures .0 .new (not-false (read-record· .result .ok) (if1· .left))) (read-record· .ensures .0 .request (not-false
-    (read-record· .result .ok) (if1· .left))) (λ j l e. c₁ .slot-of .ensures .absent (omega (arith, c .before .before .if2 .left)) j l (omega
-    (arith, has-id (read-record· .result .slot) (read-record· .ensures .0 .new (not-false (read-record· .result .ok) (if1· .left)) .held), e)) e)
-    (omega (arith, c .before .used-count .ensures, c .if3 .taken))
-
-enqueue-requires : tie.Need-enqueue-requires
-enqueue-requires c κs =
-    let c₁ = c .before .before .before in
+    let c₁ = c .before .before .before .before in
     let c₂ = c₁ .before in
     let c₃ = c₂ .before .before in
     let c₄ = c₃ .before .before in
     let c₅ = c₄ .before .before .before .before in
     let args· = c₅ .args in
-    let good· = c₅ .good in
     let pre· = c₅ .pre in
     let read-record· = c₄ .read-record in
     let if1· = c₃ .if1 in
-    let slot-of· = c₂ .slot-of in
-    let if2· = c₁ .if2 in
-    let used-count· = c .before .before .used-count in
-    let if3· = c .before .if3 in
+    let a = c .before .among .ensures .yes (c .if3 .taken) in
+    id-kept (stateOf (args· .t1) (now (args· .committed)) (now (args· .working))) (shaped (args· .t1) _ (c₅ .good .0)) (pre· .0) (pre· .1)
+    (args· .bytes .now) (sym (read-record· .ensures .0 .ok-is) ∙ not-false (read-record· .result .ok) (if1· .left)) (read-record· .result .slot)
+    (read-record· .ensures .0 .new (not-false (read-record· .result .ok) (if1· .left))) (read-record· .ensures .0 .request (not-false
+    (read-record· .result .ok) (if1· .left))) (λ j l e. c₂ .slot-of .ensures .absent (omega (arith, c₁ .if2 .left)) j l (omega
+    (arith, has-id (read-record· .result .slot) (read-record· .ensures .0 .new (not-false (read-record· .result .ok) (if1· .left)) .held), e)) e)
+    (a .0) (a .1) (a .2)
+
+returns-4 : tie.Need-returns-4
+returns-4 c =
+    let c₁ = c .before .before in
+    let c₂ = c₁ .before in
+    let c₃ = c₂ .before .before .before in
+    let c₄ = c₃ .before in
+    let c₅ = c₄ .before .before in
+    let c₆ = c₅ .before .before in
+    let c₇ = c₆ .before .before .before .before in
+    let args· = c₇ .args in
+    let pre· = c₇ .pre in
+    let read-record· = c₆ .read-record in
+    let if1· = c₅ .if1 in
+    slots-full (stateOf (args· .t1) (now (args· .committed)) (now (args· .working))) (shaped (args· .t1) _ (c₇ .good .0)) (pre· .0) (pre· .1)
+    (args· .bytes .now) (sym (read-record· .ensures .0 .ok-is) ∙ not-false (read-record· .result .ok) (if1· .left)) (read-record· .result .slot)
+    (read-record· .ensures .0 .new (not-false (read-record· .result .ok) (if1· .left))) (read-record· .ensures .0 .request (not-false
+    (read-record· .result .ok) (if1· .left))) (λ j l e. c₄ .slot-of .ensures .absent (omega (arith, c₃ .if2 .left)) j l (omega
+    (arith, has-id (read-record· .result .slot) (read-record· .ensures .0 .new (not-false (read-record· .result .ok) (if1· .left)) .held), e)) e)
+    (λ j l e. c₂ .among .ensures .no (c₁ .if3 .left) (j, l, e))
+    (omega (arith, c .before .used-count .ensures, c .if4 .taken))
+
+enqueue-requires : tie.Need-enqueue-requires
+enqueue-requires c κs =
+    let c₁ = c .before .before in
+    let c₂ = c₁ .before in
+    let c₃ = c₂ .before in
+    let c₄ = c₃ .before .before .before in
+    let c₅ = c₄ .before in
+    let c₆ = c₅ .before .before in
+    let c₇ = c₆ .before .before in
+    let c₈ = c₇ .before .before .before .before in
+    let args· = c₈ .args in
+    let good· = c₈ .good in
+    let pre· = c₈ .pre in
+    let read-record· = c₇ .read-record in
+    let if1· = c₆ .if1 in
+    let slot-of· = c₅ .slot-of in
+    let if2· = c₄ .if2 in
+    let among· = c₃ .among in
+    let if3· = c₂ .if3 in
+    let used-count· = c₁ .used-count in
+    let if4· = c .before .if4 in
     let g = here (stateOf (args· .t1) (now (args· .committed)) (now (args· .working))) (shaped (args· .t1) _ (good· .0)) (pre· .0) (pre· .1)
     (args· .bytes .now) (sym (read-record· .ensures .0 .ok-is) ∙ not-false (read-record· .result .ok) (if1· .left)) (read-record· .result .slot)
     (read-record· .ensures .0 .new (not-false (read-record· .result .ok) (if1· .left))) (read-record· .ensures .0 .request (not-false
@@ -82,8 +111,8 @@ enqueue-requires c κs =
       has-id
           (read-record· .result .slot) (read-record· .ensures .0 .new (not-false (read-record· .result .ok) (if1· .left)) .held),
       e,
-    )) e) (not-full
-    (args· .t1 .low) (args· .t1 .high) (used-count· .result) (used-count· .ensures) (if3· .left)) in (
+    )) e) (λ j l e. among· .ensures .no (if3· .left) (j, l, e)) (not-full
+    (args· .t1 .low) (args· .t1 .high) (used-count· .result) (used-count· .ensures) (if4· .left)) in (
       omega (arith, g .0, c .lowest-free .ensures),
       has-class (read-record· .result .slot) (read-record· .ensures .0 .new (not-false
           (read-record· .result .ok) (if1· .left)) .held),
@@ -96,36 +125,41 @@ enqueue-requires c κs =
             has-id (read-record· .result .slot) (read-record· .ensures .0 .new (not-false
                 (read-record· .result .ok) (if1· .left)) .held),
             e,
-          )) e) (not-full (args· .t1 .low) (args· .t1 .high) (used-count· .result)
-          (used-count· .ensures) (if3· .left)),
+          )) e) (λ j l e. among· .ensures .no (if3· .left) (j, l, e)) (not-full (args· .t1 .low) (args· .t1 .high) (used-count· .result)
+          (used-count· .ensures) (if4· .left)),
     )
 
 element-copy-out-place : tie.Need-element-copy-out-place
 element-copy-out-place c =
-    let c₁ = c .before .before .before .before .before .before .before in
+    let c₁ = c .before .before .before .before .before .before .before .before .before .before .before in
     let c₂ = c₁ .before .before in
     let read-record· = c₂ .read-record in
     has-class (read-record· .result .slot) (read-record· .ensures .0 .new (not-false (read-record· .result .ok) (c₁ .if1 .left)) .held)
 
-returns-4 : tie.Need-returns-4
-returns-4 c =
-    let c₁ = c .before .before .before in
+returns-5 : tie.Need-returns-5
+returns-5 c =
+    let c₁ = c .before .before in
     let c₂ = c₁ .before in
     let c₃ = c₂ .before in
     let c₄ = c₃ .before in
-    let c₅ = c₄ .before .before in
-    let c₆ = c₅ .before .before in
-    let c₇ = c₆ .before .before .before .before in
-    let args· = c₇ .args in
-    let good· = c₇ .good in
-    let pre· = c₇ .pre in
-    let read-record· = c₆ .read-record in
-    let if1· = c₅ .if1 in
-    let slot-of· = c₄ .slot-of in
-    let if2· = c₃ .if2 in
-    let used-count· = c₂ .used-count in
-    let if3· = c₁ .if3 in
-    let lowest-free· = c .before .before .lowest-free in
+    let c₅ = c₄ .before in
+    let c₆ = c₅ .before .before .before in
+    let c₇ = c₆ .before in
+    let c₈ = c₇ .before .before in
+    let c₉ = c₈ .before .before in
+    let c₁₀ = c₉ .before .before .before .before in
+    let args· = c₁₀ .args in
+    let good· = c₁₀ .good in
+    let pre· = c₁₀ .pre in
+    let read-record· = c₉ .read-record in
+    let if1· = c₈ .if1 in
+    let slot-of· = c₇ .slot-of in
+    let if2· = c₆ .if2 in
+    let among· = c₅ .among in
+    let if3· = c₄ .if3 in
+    let used-count· = c₃ .used-count in
+    let if4· = c₂ .if4 in
+    let lowest-free· = c₁ .lowest-free in
     let enqueue· = c .before .enqueue in
     let g = here (stateOf (args· .t1) (now (args· .committed)) (now (args· .working))) (shaped (args· .t1) _ (good· .0)) (pre· .0) (pre· .1)
     (args· .bytes .now) (sym (read-record· .ensures .0 .ok-is) ∙ not-false (read-record· .result .ok) (if1· .left)) (read-record· .result .slot)
@@ -135,8 +169,8 @@ returns-4 c =
       has-id
           (read-record· .result .slot) (read-record· .ensures .0 .new (not-false (read-record· .result .ok) (if1· .left)) .held),
       e,
-    )) e) (not-full
-    (args· .t1 .low) (args· .t1 .high) (used-count· .result) (used-count· .ensures) (if3· .left)) in
+    )) e) (λ j l e. among· .ensures .no (if3· .left) (j, l, e)) (not-full
+    (args· .t1 .low) (args· .t1 .high) (used-count· .result) (used-count· .ensures) (if4· .left)) in
     offered-as (stateOf (args· .t1) (now (args· .committed)) (now (args· .working))) (shaped (args· .t1) _ (good· .0)) (pre· .0) (pre· .1)
     (args· .bytes .now) (sym (read-record· .ensures .0 .ok-is) ∙ not-false (read-record· .result .ok) (if1· .left)) (read-record· .result .slot)
     (read-record· .ensures .0 .new (not-false (read-record· .result .ok) (if1· .left))) (read-record· .ensures .0 .request (not-false
@@ -145,8 +179,8 @@ returns-4 c =
       has-id
           (read-record· .result .slot) (read-record· .ensures .0 .new (not-false (read-record· .result .ok) (if1· .left)) .held),
       e,
-    )) e) (not-full
-    (args· .t1 .low) (args· .t1 .high) (used-count· .result) (used-count· .ensures) (if3· .left)) (lowest-free· .result) (lowest-free· .result %
+    )) e) (λ j l e. among· .ensures .no (if3· .left) (j, l, e)) (not-full
+    (args· .t1 .low) (args· .t1 .high) (used-count· .result) (used-count· .ensures) (if4· .left)) (lowest-free· .result) (lowest-free· .result %
     256) (store (enqueue· .result)) (lowest-free· .ensures) (enqueue· .ensures .is) (enqueue· .ensures .used) (omega (
       arith,
       g .0,
@@ -165,8 +199,10 @@ offer-sound-spec =
     (λ c κs. search needs)
     returns-3
     (λ c κs. search needs)
+    returns-4
+    (λ c κs. search needs)
     enqueue-requires
     (λ c. search needs)
     element-copy-out-place
     (λ c. search needs)
-    returns-4)
+    returns-5)

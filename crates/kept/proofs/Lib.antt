@@ -1,0 +1,2 @@
+-- what a walk over the kept ids leans on
+pub mod Places

@@ -1,0 +1,2 @@
+-- what the marks of the kept ids say
+pub mod Marks
