@@ -50,7 +50,7 @@ enum shpendorak_answer {
     SHPENDORAK_QUEUED = 1,      /* id, class, place in its queue (1 is the head), slot */
     SHPENDORAK_STEPPED = 2,     /* id, operations done */
     SHPENDORAK_EXECUTED = 3,    /* id */
-    SHPENDORAK_COMMITTED = 4,   /* id, number, mark (1 if it declined, else 0), slot */
+    SHPENDORAK_COMMITTED = 4,   /* id, number, mark (which operation declined first, or 0), slot */
     SHPENDORAK_WAITING = 5,     /* id, W, the id put back or 0 */
     SHPENDORAK_VALUE = 6,       /* the committed cell */
     SHPENDORAK_TO_DO = 7,       /* W */
@@ -91,7 +91,7 @@ typedef struct shpendorak_slot {
     shpendorak_op ops[SHPENDORAK_MOST_OPS]; /* those past the count are zero */
     uint32_t number;                        /* its definitive number, 0 while it waits */
     uint8_t done;                           /* how many operations are done */
-    uint8_t mark;                           /* 1 if a done operation declined, else 0 */
+    uint8_t mark;                           /* which done operation declined first, 1 to 7, or 0 */
 } shpendorak_slot;
 
 /* A site. Place p of class c, from 0, stands at 128c + p of the queue. */

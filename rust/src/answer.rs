@@ -14,7 +14,8 @@ pub enum Answer {
     Stepped { id: u32, done: u32 },
     /// The waiting head did its last operation and waits for its number.
     Executed { id: u32 },
-    /// The request committed; the mark is 1 if it declined, else 0, and its slot is free.
+    /// The request committed, and its slot is free; the mark is the place of the first operation
+    /// that declined, 1 to 7, or 0.
     Committed { id: u32, number: u32, mark: u32, slot: u32 },
     /// The request is confirmed and commits at the w-th accepted work call for its class; a head
     /// was put back, or none (0).

@@ -36,7 +36,7 @@ pub const QUEUED: u64 = 1;
 pub const STEPPED: u64 = 2;
 /// Executed: id.
 pub const EXECUTED: u64 = 3;
-/// Committed: id, number, mark, slot.
+/// Committed: id, number, mark (the place of the first operation that declined, or 0), slot.
 pub const COMMITTED: u64 = 4;
 /// Waiting: id, W, the id put back or 0.
 pub const WAITING: u64 = 5;
@@ -82,7 +82,7 @@ pub struct Slot {
     pub number: u32,
     /// How many operations are done.
     pub done: u8,
-    /// 1 if a done operation declined, else 0.
+    /// The place of the first done operation that declined, 1 to 7, or 0.
     pub mark: u8,
 }
 

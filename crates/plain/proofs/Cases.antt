@@ -1,4 +1,5 @@
--- Document 01, "Both sides of each edge": the cases marked P, in one table under one statement about the definitions. Assumes nothing.
+-- Document 01, "Both sides of each edge": the cases marked P, and those of the mark, in one table under one statement about the definitions.
+-- Assumes nothing.
 use Prim.Native.Nat.{ℕ, _-_}
 use mathlib.Core.Path.{_≡_, refl}
 use mathlib.Core.List.{List, [], _∷_, _++_, map}
@@ -48,10 +49,10 @@ table =
     ∷ record { calls = run 1 (put 0 top ∷ add 0 1 ∷ []) ++ (read 0 0 ∷ []); end = committed 1 1 0 0 ∷ value 0 ∷ [] }
     -- need 5 passes at 5 and declines at 4; need 0 passes at 0
     ∷ record { calls = run 1 (put 0 5 ∷ need 0 5 ∷ []); end = committed 1 1 0 0 ∷ [] }
-    ∷ record { calls = run 1 (put 0 4 ∷ need 0 5 ∷ []); end = committed 1 1 1 0 ∷ [] }
+    ∷ record { calls = run 1 (put 0 4 ∷ need 0 5 ∷ []); end = committed 1 1 2 0 ∷ [] }
     ∷ record { calls = run 1 (need 0 0 ∷ []); end = committed 1 1 0 0 ∷ [] }
     -- put 8 then a declining need leaves the committed cell
-    ∷ record { calls = run 1 (put 0 3 ∷ []) ++ run 2 (put 0 8 ∷ need 0 9 ∷ []) ++ (read 0 0 ∷ []); end = committed 2 2 1 0 ∷ value 3 ∷ [] }
+    ∷ record { calls = run 1 (put 0 3 ∷ []) ++ run 2 (put 0 8 ∷ need 0 9 ∷ []) ++ (read 0 0 ∷ []); end = committed 2 2 2 0 ∷ value 3 ∷ [] }
     -- queue confirmed, confirmed, waiting, waiting: confirming the fourth puts it third, nothing put back
     ∷ record {
       calls = req 1 (put 0 1 ∷ []) ∷ req 2 (put 0 2 ∷ []) ∷ req 3 (put 0 3 ∷ []) ∷ req 4 (put 0 4 ∷ []) ∷ confirm 1 1 ∷ confirm 2 2 ∷ confirm 4 3 ∷ work 0 ∷ work 0 ∷ work 0 ∷ work 0 ∷ [];
@@ -66,6 +67,22 @@ table =
     ∷ record {
       calls = req 1 (add 0 1 ∷ add 0 1 ∷ add 0 1 ∷ add 0 1 ∷ add 0 1 ∷ []) ∷ work 0 ∷ work 0 ∷ confirm 1 1 ∷ work 0 ∷ work 0 ∷ work 0 ∷ read 0 0 ∷ [];
       end = waiting 1 3 0 ∷ stepped 1 3 ∷ stepped 1 4 ∷ committed 1 1 0 0 ∷ value 5 ∷ [];
+    }
+    -- the mark: the only operation declines; the first of two; the last of seven; the third, and the fifth would too
+    ∷ record { calls = run 1 (need 0 1 ∷ []); end = committed 1 1 1 0 ∷ [] }
+    ∷ record { calls = run 1 (need 0 1 ∷ put 0 1 ∷ []) ++ (read 0 0 ∷ []); end = committed 1 1 1 0 ∷ value 0 ∷ [] }
+    ∷ record {
+      calls = run 1 (add 0 1 ∷ add 0 1 ∷ add 0 1 ∷ add 0 1 ∷ add 0 1 ∷ add 0 1 ∷ need 0 7 ∷ []) ++ (read 0 0 ∷ []);
+      end = committed 1 1 7 0 ∷ value 0 ∷ [];
+    }
+    ∷ record {
+      calls = run 1 (put 0 4 ∷ []) ++ run 2 (add 0 1 ∷ need 0 5 ∷ move 0 1 6 ∷ add 0 1 ∷ need 0 9 ∷ []) ++ (read 0 0 ∷ []);
+      end = committed 2 2 3 0 ∷ value 4 ∷ [];
+    }
+    -- a request that declined, put back, runs again with no mark
+    ∷ record {
+      calls = req 1 (need 0 5 ∷ []) ∷ req 2 (put 0 5 ∷ []) ∷ work 0 ∷ confirm 2 1 ∷ work 0 ∷ confirm 1 2 ∷ work 0 ∷ [];
+      end = executed 1 ∷ waiting 2 1 1 ∷ committed 2 1 0 1 ∷ waiting 1 1 0 ∷ committed 1 2 0 0 ∷ [];
     }
     ∷ []
 

@@ -3,13 +3,13 @@ use Prim.Native.Nat.{ℕ, zero, suc, _+_, _-_, _%_, _<_}
 use native.Mathlib.Omega.{arith}
 use mathlib.Core.Path.{_≡_, refl, _∙_}
 use mathlib.Core.Bool.{true}
-use mathlib.Core.Option.{Option, none, some, Option·getD}
+use mathlib.Core.Option.{Option, none, some}
 use mathlib.Core.List.{List, [], _∷_, map}
 use lib.Dec.{ltb, leb, eqb}
 use lib.ListN.{getD, set, length-set}
 use borrow.Author.Tests.{ltb-true}
 use Rattle.plain.specs.Sizes.{word}
-use Rattle.plain.specs.Ops.{Op, put, add, need, move, carry, cell, opRules, opOk}
+use Rattle.plain.specs.Ops.{Op, put, add, need, move, carry, cell, reported, leaves, opRules, opOk}
 use Rattle.plain.specs.Record.{requestIn}
 use Rattle.plain.specs.Queue.{Entry, Item, opsOf, isExecuted, isConfirmed, idIs}
 use Rattle.plain.specs.Steps.{Class, tried, advanced, workOn, workStep, offerStep, confirmOn, confirmStep}
@@ -60,7 +60,7 @@ next-ok [] k h = unfold opOk in refl
 next-ok (o ∷ os) zero h = h .0
 next-ok (o ∷ os) (suc k) h = next-ok os k (h .1)
 
-tried-sized : (c : ℕ) (e : Entry) (base w : List ℕ) → Belongs c e → Sized base → Sized w → Sized (Option·getD (tried e w) base)
+tried-sized : (c : ℕ) (e : Entry) (base w : List ℕ) → Belongs c e → Sized base → Sized w → Sized (leaves (tried e w) base)
 tried-sized c e base w b p q =
     by-test (eqb (e .mark) 0)
     (λ t. rw t (go (carry o w) (carry-sized o w (next-ok (opsOf e) (e .done) (is-valid (e .request) (b .valid) .ops)) q)))
@@ -69,7 +69,7 @@ tried-sized c e base w b p q =
     o : Op
     o = getD (opsOf e) (e .done) (put 0 0)
 
-    go : (m : Option (List ℕ)) → SizedIf m → Sized (Option·getD m base)
+    go : (m : Option (List ℕ)) → SizedIf m → Sized (leaves (reported (suc (e .done)) m) base)
     go none h = p
     go (some l) h = h
 

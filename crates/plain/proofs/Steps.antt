@@ -4,12 +4,12 @@ use native.Mathlib.Omega.{arith}
 use mathlib.Core.Path.{_≡_, refl, sym, ap, _∙_, subst}
 use mathlib.Core.Logic.{_⊎_, inl, inr}
 use mathlib.Core.Bool.{Bool, true, false}
-use mathlib.Core.Option.{Option, none, some, Option·getD}
+use mathlib.Core.Option.{none, some}
 use mathlib.Core.List.{List, [], _∷_, _++_}
 use lib.ListN.{length}
 use lib.Seq.{take-all}
 use borrow.Author.Tests.{leb-true, leb-false, ltb-false}
-use Rattle.plain.specs.Ops.{Op, Request, carryAll, markOf, runRequest, runAll}
+use Rattle.plain.specs.Ops.{Op, Request, Ran, carryAll, markOf, leaves, runRequest, runAll}
 use Rattle.plain.specs.Queue.{Entry, Item, opsOf, isExecuted, isConfirmed, left, asks, count}
 use Rattle.plain.specs.Queue.{firstOf, has, confirmedPart}
 use Rattle.plain.specs.Steps.{Class, classWith, Did, committed, ending, newEntry, tried, advanced}
@@ -64,14 +64,14 @@ module _ (c top : ℕ) (e : Entry) (rest : List Item) (base w : List ℕ) (s : S
   e′ = advanced e (tried e w)
 
   abbrev w′ : List ℕ
-  w′ = Option·getD (tried e w) base
+  w′ = leaves (tried e w) base
 
   head : (e .number ≡ 0) ⊎ (suc (e .done) < length (opsOf e)) → Head e′ base w′
   head u = record {
     within = omega arith;
     unfinished = λ n. unfinished u n;
     mark = ap markOf (tried-is e base w (s .working .0) l);
-    cells = ap (λ (m : Option (List ℕ)). Option·getD m base) (tried-is e base w (s .working .0) l);
+    cells = ap (λ (m : Ran). leaves m base) (tried-is e base w (s .working .0) l);
   }
     where
       unfinished : (e .number ≡ 0) ⊎ (suc (e .done) < length (opsOf e)) → 0 < e .number → suc (e .done) < length (opsOf e)
@@ -81,7 +81,7 @@ module _ (c top : ℕ) (e : Entry) (rest : List Item) (base w : List ℕ) (s : S
   -- after the last operation the working cells are those of the whole request
   whole : length (opsOf e) ≤ suc (e .done) → w′ ≡ runRequest base (e .request)
   unfolding runRequest
-  whole h = ap (λ (m : Option (List ℕ)). Option·getD m base)
+  whole h = ap (λ (m : Ran). leaves m base)
       (tried-is e base w (s .working .0) l ∙ ap (λ (os : List Op). carryAll os base) (take-all (suc (e .done)) (opsOf e) h))
 
   stays : (e .number ≡ 0) ⊎ (suc (e .done) < length (opsOf e)) → SoundClass c top (classWith (e′ ∷ rest) base w′)

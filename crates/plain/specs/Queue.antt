@@ -7,7 +7,8 @@ use lib.Dec.{leb, ltb, eqb}
 use lib.ListN.{length}
 use Rattle.plain.specs.Ops.{Op, Request}
 
--- a queued request: number 0 while it waits, the definitive number once it is confirmed; mark 1 if it has declined, else 0
+-- a queued request: number 0 while it waits, the definitive number once it is confirmed; its mark is the place of the first of its done
+-- operations that declined, or 0
 pub record Entry : Type 0 where
   pub request : Request
   pub slot : ℕ

@@ -1,11 +1,11 @@
 -- One class: its queue, its committed and its working cells, and document 01's steps on them. Assumes nothing.
 use Prim.Native.Nat.{ℕ, suc, _+_}
 use mathlib.Core.Bool.{Bool, true, cond}
-use mathlib.Core.Option.{Option, none, some, Option·getD}
+use mathlib.Core.Option.{none, some}
 use mathlib.Core.List.{List, [], _∷_, _++_}
 use lib.Dec.{eqb}
 use lib.ListN.{length, getD}
-use Rattle.plain.specs.Ops.{put, Request, carry, markOf}
+use Rattle.plain.specs.Ops.{put, Request, Ran, declined, carryAt, markOf, leaves}
 use Rattle.plain.specs.Queue.{Entry, Item, idOf, opsOf, isExecuted, idIs, isConfirmed}
 use Rattle.plain.specs.Queue.{entryOf, without, owed, beforeWaiting}
 
@@ -51,12 +51,12 @@ offerStep r slot k = record {
   answer = queued (r .id) (r .class) (length (k .queue) + 1) slot;
 }
 
--- WORK. The head does its next operation on the working cells; once it has declined it changes nothing any more.
--- `none` where it declines or has declined: the working cells are the committed ones then
-abbrev pub tried : Entry → List ℕ → Option (List ℕ)
-tried e w = cond (eqb (e .mark) 0) (carry (getD (opsOf e) (e .done) (put 0 0)) w) none
+-- WORK. The head does its next operation on the working cells; once it has declined it changes neither cells nor mark any more.
+-- `declined` where it declines or has declined: the working cells are the committed ones then
+abbrev pub tried : Entry → List ℕ → Ran
+tried e w = cond (eqb (e .mark) 0) (carryAt (suc (e .done)) (getD (opsOf e) (e .done) (put 0 0)) w) (declined (e .mark))
 
-abbrev pub advanced : Entry → Option (List ℕ) → Entry
+abbrev pub advanced : Entry → Ran → Entry
 advanced e t =
     record { request = e .request; slot = e .slot; number = e .number; done = suc (e .done); mark = markOf t }
 
@@ -71,7 +71,7 @@ worked e rest base w =
 
 abbrev pub workOn : List Item → List ℕ → List ℕ → Did
 workOn [] base w = record { class = classWith [] base w; answer = refused 11 }
-workOn (e ∷ rest) base w = worked (advanced e (tried e w)) rest base (Option·getD (tried e w) base)
+workOn (e ∷ rest) base w = worked (advanced e (tried e w)) rest base (leaves (tried e w) base)
 
 unfoldable pub workStep : Class → Did
 workStep k = workOn (k .queue) (k .committed) (k .working)

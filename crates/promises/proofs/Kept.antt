@@ -1,14 +1,14 @@
 -- A fresh site is sound, every call leaves a sound site sound and its cells right, from fresh the requests accepted are the commits plus the
--- requests queued, and W is at most 896. Assumes nothing.
+-- requests queued, W is at most 896, and a mark at most 7. Assumes nothing.
 use Prim.Native.Nat.{ℕ, _+_, _≤_}
 use native.Mathlib.Omega.{arith}
 use mathlib.Core.Path.{_≡_, sym, ap, _∙_, subst}
 use mathlib.Core.Bool.{Bool, true}
 use mathlib.Core.List.{List}
-use Rattle.plain.specs.Sizes.{mostW}
+use Rattle.plain.specs.Sizes.{mostOps, mostW}
 use Rattle.plain.specs.Ops.{Request}
 use Rattle.plain.specs.Queue.{count, owed}
-use Rattle.plain.specs.Steps.{Answer, refused, toDo, unconfirmed}
+use Rattle.plain.specs.Steps.{Answer, refused, committed, toDo, unconfirmed}
 use Rattle.plain.specs.Site as P
 use Rattle.plain.specs.Site.{Call, confirm, look, call, act, accepts, refusal, standing, classOf, entryAt, confirmedAt}
 use Rattle.plain.specs.Sound.{SoundSite}
@@ -76,3 +76,10 @@ left-bounded {x} {i = i} {w = w} e =
     by-contract e
     (λ r d. look-w (plainOf x) (plain-sound (e .before) (r .1)) i w (d .answer))
     (λ m d. let z : toDo w ≡ refused m = d .answer in let y : _≡_ {A = ℕ} 0 1 = cc in absurd (omega arith))
+
+-- the mark, where the call commits
+pub mark-bounded : {x y : State} {k : Call} {i n m j : ℕ} → Happens x k y (committed i n m j) → m ≤ mostOps
+mark-bounded {x} {k = k} {i = i} {n = n} {m = m} {j = j} e =
+    by-contract e
+    (λ r d. B.mark-bounded (plainOf x) (plain-sound (e .before) (r .1)) k i n m j (sym (d .answer)))
+    (λ r d. let z : committed i n m j ≡ refused r = d .answer in let y : _≡_ {A = ℕ} 0 1 = cc in absurd (omega arith))

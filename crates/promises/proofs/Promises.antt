@@ -27,6 +27,7 @@ promises = record {
   accepted = K.accepted;
   w-bounded = K.w-bounded;
   left-bounded = K.left-bounded;
+  mark-bounded = K.mark-bounded;
   work-alike = L.work-alike;
   read-alike = L.read-alike;
   offer-alike = L.offer-alike;

@@ -5,11 +5,11 @@ use mathlib.Core.Logic.{_↔_}
 use mathlib.Core.Bool.{Bool, true, not}
 use mathlib.Core.List.{List, _∷_, _++_}
 use lib.ListN.{length}
-use Rattle.plain.specs.Sizes.{classCount, slotCount, keptCount, mostW}
+use Rattle.plain.specs.Sizes.{classCount, slotCount, keptCount, mostOps, mostW}
 use Rattle.plain.specs.Ops.{Request}
 use Rattle.plain.specs.Record.{requestIn}
 use Rattle.plain.specs.Queue.{count, has}
-use Rattle.plain.specs.Steps.{Answer, toDo}
+use Rattle.plain.specs.Steps.{Answer, committed, toDo}
 use Rattle.plain.specs.Site.{Call, offer, work, confirm, read, look, call, standing, isFree, isQueued}
 use Rattle.plain.specs.History.{after, offers, confirmations, commits, committedIn}
 use Rattle.plain.specs.Demands.{Shares, home, wOf}
@@ -62,6 +62,8 @@ pub record Promises : Type 0 where
   -- W is at most 896, in confirm's answer and in look's
   pub w-bounded : {x y : State} {i n : ℕ} {a : Answer} → Happens x (confirm i n) y a → wOf a ≤ mostW
   pub left-bounded : {x y : State} {i w : ℕ} → Happens x (look i) y (toDo w) → w ≤ mostW
+  -- a commit's mark is 0 or the place of an operation, 1 to 7
+  pub mark-bounded : {x y : State} {k : Call} {i n m j : ℕ} → Happens x k y (committed i n m j) → m ≤ mostOps
   -- ONE CLASS ALONE. On sites that agree in a class, work and read for it answer alike and change it alike
   pub work-alike : {x x′ : State} {c : ℕ} → Ready x → Ready x′ → c < classCount → Agree x x′ c → Alike x x′ c (work c)
   pub read-alike : {x x′ : State} {c k : ℕ} → Ready x → Ready x′ → c < classCount → Agree x x′ c → Alike x x′ c (read c k)

@@ -4,30 +4,40 @@ ghost use Prim.Native.Nat.{_<_, _≤_};
 ghost use lib.ListN.{length};
 ghost use Rattle.plain.specs.Sizes.{cellCount};
 ghost use Rattle.slots.specs.Rules.{Holds};
-ghost use Rattle.slots.specs.Steps.{Marked, StepDone, RanOn, HeadOk};
+ghost use Rattle.slots.specs.Steps.{carriedAt, ranTo, Marked, StepDone, RanOn, HeadOk};
 use super::Slot;
 use cells::CELLS;
 use cells::carry;
 use cells::copy_cells;
 use cells::same_cells;
 
-// The mark of a request that has declined; 0 is that of one that has not.
-pub const DECLINED: u8 = 1;
+// The slot's operation k, on cells of its class. Its place, from 1, if it declines, and then it leaves them; else 0.
+fn carry_at(v: Slot, k: u8, cells: &mut [u32]) -> u8
+    requires { ⌜ (length (now cells) ≡ cellCount) × Holds v × (k < v .count) ⌝ }
+    ensures { λ r. ⌜ carriedAt v k (now (cells .entry)) ≡ ranTo r (now (cells .exit)) ⌝ }
+{
+    let i = k as usize;
+    let op = v.ops[i];
+    if carry(cells, op) {
+        return 0;
+    }
+    k + 1
+}
 
 // The slot's next operation, on the working cells. One that declines, or that has, leaves the committed ones.
 pub fn step(mut v: Slot, from: &[u32], cells: &mut [u32]) -> Slot
     requires { ⌜ (length (now from) ≡ cellCount) × (length (now cells) ≡ cellCount) × Holds v × (v .done < v .count) × Marked v (now from) (now cells) ⌝ }
     ensures { λ r. ⌜ StepDone v (now (from .entry)) (now (cells .entry)) r (now (cells .exit)) ⌝ }
 {
-    let k = v.done as usize;
-    v.done = v.done + 1;
+    let k = v.done;
+    v.done = k + 1;
     if v.mark != 0 {
         return v;
     }
-    let op = v.ops[k];
-    if !carry(cells, op) {
+    let mark = carry_at(v, k, cells);
+    v.mark = mark;
+    if mark != 0 {
         copy_cells(cells, from);
-        v.mark = DECLINED;
     }
     v
 }
@@ -43,16 +53,15 @@ pub fn run_done(v: Slot, from: &[u32]) -> Ran
     requires { ⌜ (length (now from) ≡ cellCount) × Holds v × (v .done ≤ v .count) ⌝ }
     ensures { λ r. ⌜ RanOn v (now (from .entry)) (r .mark) (r .cells) ⌝ }
 {
-    let n = v.done as usize;
     let mut work = [0u32; CELLS];
     copy_cells(&mut work, from);
-    let mut k = 0;
-    while k < n {
-        let op = v.ops[k];
-        if !carry(&mut work, op) {
+    let mut k = 0u8;
+    while k < v.done {
+        let mark = carry_at(v, k, &mut work);
+        if mark != 0 {
             copy_cells(&mut work, from);
             return Ran {
-                mark: DECLINED,
+                mark: mark,
                 cells: work,
             };
         }

@@ -5,14 +5,13 @@ use mathlib.Core.Path.{_≡_, refl, sym, ap, _∙_}
 use mathlib.Core.Logic.{_⊎_, inl, inr, _↔_}
 use mathlib.Core.Bool.{Bool, true, false}
 use mathlib.Core.List.{List, [], _∷_, map}
-use mathlib.Core.Option.{Option·getD}
 use lib.Dec.{eqb, ltb, leb}
 use lib.ListN.{length, getD, List·getD-eq-default}
 use borrow.Author.Tests.{eqb-true, eqb-false, ltb-true, ltb-false, leb-true, leb-false}
 use Rattle.cells.specs.Ops.{OpOk, noOp}
 use Rattle.cells.specs.declared.Op.{Op}
 use Rattle.plain.proofs.Tests.{by-test, no}
-use Rattle.plain.specs.Ops.{markOf}
+use Rattle.plain.specs.Ops.{markOf, leaves}
 use Rattle.plain.specs.Queue.{Entry, opsOf}
 use Rattle.plain.specs.Site.{Recent}
 use Rattle.plain.specs.Sound.{soFar}
@@ -168,7 +167,7 @@ cells (e ∷ q) base w =
     (λ h. record { within = h .0; unfinished = h .1 .0; mark = h .1 .1 .0; cells = h .1 .1 .1 })
     (λ h. (h .within, (h .unfinished, (h .mark, h .cells))))
     (and-then (le (e .done) (length (opsOf e))) (λ _. and-then (when (lt 0 (e .number)) (λ _. lt (e .done) (length (opsOf e)))) (λ _.
-    and-then (eq (e .mark) (markOf (soFar e base))) (λ _. eq-list eq w (Option·getD (soFar e base) base)))))
+    and-then (eq (e .mark) (markOf (soFar e base))) (λ _. eq-list eq w (leaves (soFar e base) base)))))
 
 module _ (s : Store) (w : Shaped s) where
   -- a slot past the end stands nowhere: where all places name slots, 128 of them are enough to look at

@@ -4,7 +4,7 @@ use native.Mathlib.Omega.{arith}
 use mathlib.Core.Path.{_≡_, refl, sym, ap, _∙_, subst}
 use mathlib.Core.Logic.{_⊎_, inl, inr}
 use mathlib.Core.Bool.{Bool, true, false, not, cond, _&&_}
-use mathlib.Core.Option.{Option, none, some, Option·getD}
+use mathlib.Core.Option.{Option, none, some}
 use mathlib.Core.List.{List, [], _∷_, _++_}
 use lib.Dec.{eqb, ltb}
 use lib.ListN.{length, getD, take, drop, set, replicate, length-set, List·getD-map}
@@ -19,8 +19,9 @@ use Rattle.cells.specs.Ops.{noOp, opOf}
 use Rattle.cells.specs.declared.Op.{Op}
 use Rattle.places.proofs.Parts.{put-apart, put-own}
 use Rattle.plain.proofs.Tests.{by-test, no}
-use Rattle.plain.specs.Sound.{Head, soFar}
+use Rattle.plain.specs.Sound.{Head}
 use Rattle.slots.proofs.Records.{ops-count}
+use Rattle.slots.proofs.Running as Running
 use Rattle.slots.specs.Meaning.{entryOf, freeSlot, isUsed, noSlot, opAt, requestOf, slotAt}
 use Rattle.slots.specs.Rules.{Holds}
 use Rattle.slots.specs.Steps.{StepDone, Marked, afterStep, triedBy}
@@ -75,7 +76,7 @@ module _ (i : ℕ) (v : Slot) (seven : length (v .ops) ≡ 7) (holds : Holds v) 
   any-default (x ∷ l) (suc n) d e k = any-default l n d e (omega arith)
 
   pub tried-same : K.tried (entryOf i v) w ≡ triedBy v w
-  tried-same = ap (λ (o : P.Op). cond (eqb (v .mark) 0) (P.carry o w) none) is-op
+  tried-same = ap (λ (o : P.Op). cond (eqb (v .mark) 0) (P.carryAt (suc (v .done)) o w) (P.declined (v .mark))) is-op
     where
       is-op : getD (requestOf v .ops) (v .done) (P.put 0 0) ≡ opOf (opAt v (v .done))
       is-op =
@@ -140,14 +141,14 @@ module _ (x : State) (w : Shaped (x .site)) (r : RightCells x) (q : SoundState x
       abbrev rest : List Q.Entry
       rest = entries (s .slots) (drop 1 (places s c))
 
-      abbrev tr : Option (List ℕ)
+      abbrev tr : P.Ran
       tr = headTried s wrk c
 
       abbrev u : Slot
       u = afterStep v tr
 
       abbrev cells : List ℕ
-      cells = Option·getD tr (cellsOf base c)
+      cells = P.leaves tr (cellsOf base c)
 
       small : i < 128
       small = head-small s w (q .laid) c l has
@@ -173,11 +174,7 @@ module _ (x : State) (w : Shaped (x .site)) (r : RightCells x) (q : SoundState x
 
       -- a head that has declined has the committed cells
       pub marked : Marked v (cellsOf base c) (cellsOf wrk c)
-      marked = by-run (soFar (entryOf i v) (cellsOf base c)) (head-sound .mark) (head-sound .cells)
-        where
-          by-run : (o : Option (List ℕ)) → v .mark ≡ P.markOf o → cellsOf wrk c ≡ Option·getD o (cellsOf base c) → Marked v (cellsOf base c) (cellsOf wrk c)
-          by-run none m e = inr (m, e)
-          by-run (some y) m e = inl m
+      marked = Running.marked i v (cellsOf base c) (cellsOf wrk c) head-sound
 
       -- where the head is confirmed, a commit is still to come
       pub commits-less : 0 < v .number → s .commits < s .confirmations
@@ -197,7 +194,7 @@ module _ (x : State) (w : Shaped (x .site)) (r : RightCells x) (q : SoundState x
         unfolding S.act K.workStep plain plainClass
         outcome = accepted-call p k accepted ∙ ap (S.inClass p c none)
             (ap (λ (z : List Q.Entry). K.workOn z (cellsOf base c) (cellsOf wrk c)) head
-            ∙ ap (λ (o : Option (List ℕ)). K.worked (K.advanced (entryOf i v) o) rest (cellsOf base c) (Option·getD o (cellsOf base c))) (tried-same i v (w .ops i small) head-held left (cellsOf wrk c)))
+            ∙ ap (λ (o : P.Ran). K.worked (K.advanced (entryOf i v) o) rest (cellsOf base c) (P.leaves o (cellsOf base c))) (tried-same i v (w .ops i small) head-held left (cellsOf wrk c)))
 
         after-held : Holds u
         after-held = record { count = head-held .count; coded = head-held .coded; rest = head-held .rest; valid = head-held .valid }

@@ -63,9 +63,9 @@ abbrev pub Rest : List Entry → Type 0
 Rest [] = Unit
 Rest (e ∷ q) = All Untouched q
 
--- none has more done than it has operations, a confirmed head is not executed, it is marked declined exactly if one of its done operations
--- declined, and the working cells are the committed ones with the head's done operations carried out on them (the four fields of Head), or
--- equal to them where the queue is empty
+-- none has more done than it has operations, a confirmed head is not executed, its mark is the place of the first of its done operations
+-- that declined, or 0, and the working cells are the committed ones with the head's done operations carried out on them (the four fields of
+-- Head), or equal to them where the queue is empty
 abbrev pub Cells : List Entry → List ℕ → List ℕ → Type 0
 Cells [] base w = w ≡ base
 Cells (e ∷ q) base w = Head e base w

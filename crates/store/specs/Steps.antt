@@ -1,12 +1,13 @@
 -- What the steps do to the arrays and to a slot. Assumes nothing.
 use Prim.Native.Nat.{ℕ, _+_, _*_, _-_, _%_, _<_, _≤_}
 use mathlib.Core.Path.{_≡_}
-use mathlib.Core.Option.{Option, none, some, Option·getD}
+use mathlib.Core.Option.{none}
 use mathlib.Core.List.{List, map}
 use Rattle.slots.specs.Steps.{triedBy, afterStep, Marked}
 use Rattle.places.specs.Moves.{Moved}
 use lib.ListN.{length, getD, drop, set}
 use Rattle.plain.specs.Sizes.{keptCount}
+use Rattle.plain.specs.Ops.{Ran, leaves}
 use Rattle.plain.specs.Queue as Q
 use Rattle.plain.specs.Steps as K
 use Rattle.plain.specs.Site as S
@@ -56,14 +57,14 @@ pub record Workable (s : Store) (base wrk : List ℕ) (c : ℕ) : Type 0 where
   pub marked : Marked (slotAt (s .slots) (headSlot s c)) (cellsOf base c) (cellsOf wrk c)
 
 -- what that operation comes to
-abbrev pub headTried : Store → List ℕ → ℕ → Option (List ℕ)
+abbrev pub headTried : Store → List ℕ → ℕ → Ran
 headTried s wrk c = triedBy (slotAt (s .slots) (headSlot s c)) (cellsOf wrk c)
 
 -- it is done: in the head's slot, and on the working cells of the class
 pub record Advanced (s : Store) (base wrk : List ℕ) (c : ℕ) (t : Store) (wrk′ : List ℕ) : Type 0 where
   pub is : t ≡ withSlot s (headSlot s c) (afterStep (slotAt (s .slots) (headSlot s c)) (headTried s wrk c))
   pub cells : length wrk′ ≡ 1024
-  pub own : cellsOf wrk′ c ≡ Option·getD (headTried s wrk c) (cellsOf base c)
+  pub own : cellsOf wrk′ c ≡ leaves (headTried s wrk c) (cellsOf base c)
   pub others : (d : ℕ) → (d ≡ c → ⊥) → cellsOf wrk′ d ≡ cellsOf wrk d
 
 -- class c has a head that may commit

@@ -178,7 +178,8 @@ impl Hosted {
             unsafe { shpendorak_work(self.site, c, RUN_LENGTH, w, RUN_LENGTH, class, answer) };
     }
 
-    /// Works the head of a class, which stands in a slot, to its commit: so many are queued.
+    /// Works the head of a class, which stands in a slot, to its commit: so many are queued. Its
+    /// first operation declines, so that its mark is 1.
     pub fn work_off(&mut self, slot: usize, class: usize, queued: usize, commits: u32) {
         let start = start_of(slot);
         for done in 1..MOST_OPS {

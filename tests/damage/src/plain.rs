@@ -35,7 +35,7 @@ fn entry_of(slot: &Slot, number: u8) -> Entry {
         slot: number,
         number: (slot.number != 0).then_some(slot.number),
         done: usize::from(slot.done),
-        declined: slot.mark != 0,
+        mark: usize::from(slot.mark),
     }
 }
 
@@ -89,7 +89,7 @@ fn slot_of(entry: &Entry) -> Slot {
         count: entry.request.ops.len() as u8,
         number: entry.number.unwrap_or(0),
         done: entry.done as u8,
-        mark: entry.declined.into(),
+        mark: entry.mark as u8,
         ..Slot::default()
     };
     for (op, raw) in entry.request.ops.iter().zip(&mut slot.ops) {
@@ -117,8 +117,8 @@ pub fn numbers(answer: Answer) -> Numbers {
         }
         Answer::Stepped { id, done } => [raw::STEPPED, id.into(), wide(done), 0, 0],
         Answer::Executed { id } => [raw::EXECUTED, id.into(), 0, 0, 0],
-        Answer::Committed { id, number, declined, slot } => {
-            [raw::COMMITTED, id.into(), number.into(), declined.into(), slot.into()]
+        Answer::Committed { id, number, mark, slot } => {
+            [raw::COMMITTED, id.into(), number.into(), wide(mark), slot.into()]
         }
         Answer::Waiting { id, w, put_back } => {
             [raw::WAITING, id.into(), wide(w), put_back.into(), 0]

@@ -139,7 +139,7 @@ pub static RULES: [Rule; 30] = [
         breach: heads::executed_and_confirmed,
     },
     Rule {
-        words: "declined exactly if a done operation declined",
+        words: "the mark is the place of the first that declined, or 0",
         holds: heads::marks_are_right,
         breach: heads::mark_wrong,
     },

@@ -33,8 +33,9 @@ pub enum Answer {
     Stepped { id: u32, done: usize },
     /// The waiting head did its last operation.
     Executed { id: u32 },
-    /// The request committed and its slot is free.
-    Committed { id: u32, number: u32, declined: bool, slot: u8 },
+    /// The request committed and its slot is free; the mark is the place of the operation that
+    /// declined first, from 1, or 0.
+    Committed { id: u32, number: u32, mark: usize, slot: u8 },
     /// The request is confirmed and commits at the w-th work call; 0 if none was put back.
     Waiting { id: u32, w: usize, put_back: u32 },
     /// The committed cell.

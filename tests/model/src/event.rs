@@ -127,9 +127,7 @@ pub fn line(place: u64, answer: &Answer) -> String {
         Answer::Queued { id, class, place, slot } => format!("{id} {class} {place} {slot}"),
         Answer::Stepped { id, done } => format!("{id} {done}"),
         Answer::Executed { id } => id.to_string(),
-        Answer::Committed { id, number, declined, slot } => {
-            format!("{id} {number} {} {slot}", u8::from(declined))
-        }
+        Answer::Committed { id, number, mark, slot } => format!("{id} {number} {mark} {slot}"),
         Answer::Waiting { id, w, put_back } => format!("{id} {w} {put_back}"),
         Answer::Value(cell) => cell.to_string(),
         Answer::Refused(number) => number.to_string(),

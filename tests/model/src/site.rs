@@ -23,8 +23,8 @@ pub struct Entry {
     pub number: Option<u32>,
     /// How many of its operations are done.
     pub done: usize,
-    /// Whether one of its done operations declined.
-    pub declined: bool,
+    /// The place of the first of its done operations that declined, from 1; 0 if none did.
+    pub mark: usize,
 }
 
 impl Entry {
@@ -87,7 +87,7 @@ impl Site {
         };
         let (id, class) = (request.id, request.class);
         let queue = &mut self.classes[usize::from(class)].queue;
-        queue.push(Entry { request, slot, number: None, done: 0, declined: false });
+        queue.push(Entry { request, slot, number: None, done: 0, mark: 0 });
         Answer::Queued { id, class, place: queue.len(), slot }
     }
 
@@ -200,8 +200,8 @@ impl Site {
         let head = class.queue.remove(0);
         class.committed = class.working;
         self.commits += 1;
-        let (id, declined, slot) = (head.request.id, head.declined, head.slot);
-        Answer::Committed { id, number, declined, slot }
+        let (id, mark, slot) = (head.request.id, head.mark, head.slot);
+        Answer::Committed { id, number, mark, slot }
     }
 }
 
@@ -211,8 +211,8 @@ impl Class {
         let head = &mut self.queue[0];
         let op = head.request.ops[head.done];
         head.done += 1;
-        if !head.declined && !carry_out(op, &mut self.working) {
-            head.declined = true;
+        if head.mark == 0 && !carry_out(op, &mut self.working) {
+            head.mark = head.done;
             self.working = self.committed;
         }
     }
@@ -224,7 +224,7 @@ impl Class {
             return 0;
         }
         head.done = 0;
-        head.declined = false;
+        head.mark = 0;
         self.working = self.committed;
         head.request.id
     }

@@ -30,7 +30,7 @@ const RULES: [Rule; 20] = [
     (|site| site.entries().all(done_within_ops), "none has more done than operations"),
     (|site| site.classes.iter().all(only_head_active), "only a head has anything done"),
     (|site| site.classes.iter().all(confirmed_head_open), "a confirmed head is not executed"),
-    (|site| site.classes.iter().all(declined_is_right), "declined exactly if one declined"),
+    (|site| site.classes.iter().all(mark_is_right), "the mark is the first that declined"),
     (|site| site.classes.iter().all(working_is_right), "working cells follow the head"),
     (Site::as_many_kept, "the ids of the last 256 confirmations are kept"),
     (|site| !site.kept.contains(&0), "kept ids are not 0"),
@@ -136,7 +136,7 @@ fn done_within_ops(entry: &Entry) -> bool {
 
 /// Whether nothing but the head has anything done or is declined.
 fn only_head_active(class: &Class) -> bool {
-    class.queue.iter().skip(1).all(|entry| entry.done == 0 && !entry.declined)
+    class.queue.iter().skip(1).all(|entry| entry.done == 0 && entry.mark == 0)
 }
 
 /// Whether a confirmed head has operations left.
@@ -144,11 +144,12 @@ fn confirmed_head_open(class: &Class) -> bool {
     class.queue.first().is_none_or(|head| head.number.is_none() || head.to_do() > 0)
 }
 
-/// Whether the head is marked declined exactly if one of its done operations declined.
-fn declined_is_right(class: &Class) -> bool {
+/// Whether the head's mark is the place of the first of its done operations that declined, or 0.
+fn mark_is_right(class: &Class) -> bool {
     class.queue.first().is_none_or(|head| {
-        let outcome = run_ops(&class.committed, &head.request.ops[..head.done]);
-        head.declined == outcome.is_none()
+        let declines =
+            |&count: &usize| run_ops(&class.committed, &head.request.ops[..count]).is_none();
+        head.mark == (1..=head.done).find(declines).unwrap_or(0)
     })
 }
 

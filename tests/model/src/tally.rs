@@ -2,6 +2,7 @@
 
 use crate::answer::{Answer, BAD_RECORD, ID_KEPT, NUMBERS_USED_UP};
 use crate::event::{word_of, WORDS};
+use crate::record::MAX_OPS;
 use std::io::{self, Write};
 
 /// How often each answer occurred.
@@ -13,8 +14,8 @@ pub struct Tally {
     words: [u64; WORDS.len()],
     /// How often each refusal occurred, by its number.
     refusals: [u64; ID_KEPT as usize + 1],
-    /// How many commits were declined.
-    declined: u64,
+    /// How many commits had each mark.
+    marks: [u64; MAX_OPS + 1],
     /// How many confirmations put a head back.
     put_back: u64,
     /// The largest W answered.
@@ -27,7 +28,7 @@ impl Tally {
         self.words[word_of(answer)] += 1;
         match *answer {
             Answer::Refused(number) => self.refusals[usize::from(number)] += 1,
-            Answer::Committed { declined, .. } => self.declined += u64::from(declined),
+            Answer::Committed { mark, .. } => self.marks[mark] += 1,
             Answer::Waiting { w, put_back, .. } => {
                 self.put_back += u64::from(put_back != 0);
                 self.largest_w = self.largest_w.max(w);
@@ -41,12 +42,14 @@ impl Tally {
         self.words.iter().sum()
     }
 
-    /// The words, and the refusals that can be reached, that never occurred.
+    /// The words, the refusals that can be reached and the marks that never occurred.
     pub fn missing(&self) -> Vec<String> {
         let words = WORDS.iter().zip(self.words).filter(|(_, count)| *count == 0);
         let refusals = reachable().filter(|&number| self.refusals[usize::from(number)] == 0);
+        let marks = (0..).zip(self.marks).filter(|(_, count)| *count == 0);
         let words = words.map(|(word, _)| word.to_string());
-        words.chain(refusals.map(|number| format!("refused {number}"))).collect()
+        let refusals = refusals.map(|number| format!("refused {number}"));
+        words.chain(refusals).chain(marks.map(|(mark, _)| mark_name(mark))).collect()
     }
 
     /// Writes the counts as a table.
@@ -60,7 +63,9 @@ impl Tally {
         for (number, count) in refusals {
             row(out, &format!("refused {number}"), count)?;
         }
-        row(out, "commits declined", self.declined)?;
+        for (mark, count) in (0..).zip(self.marks) {
+            row(out, &mark_name(mark), count)?;
+        }
         row(out, "heads put back", self.put_back)?;
         row(out, "largest W", self.largest_w as u64)
     }
@@ -69,6 +74,11 @@ impl Tally {
 /// The refusals a driving program can reach: 6 would take 4,294,967,295 confirmations.
 fn reachable() -> impl Iterator<Item = u8> {
     (BAD_RECORD..=ID_KEPT).filter(|&number| number != NUMBERS_USED_UP)
+}
+
+/// What commits with a mark are called.
+fn mark_name(mark: usize) -> String {
+    format!("commits marked {mark}")
 }
 
 /// Writes one row of the table.

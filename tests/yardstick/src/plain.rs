@@ -12,8 +12,6 @@ use model::answer::*;
 use model::record::CELLS;
 use sound::{queue_of, sound};
 
-/// The mark of a request that has declined.
-const DECLINED: u8 = 1;
 /// The slot that is free: all zero.
 pub const FREE: Slot = Slot {
     id: 0,
@@ -147,7 +145,7 @@ pub fn work(site: &mut Site, committed: &mut [u32], working: &mut [u32], class: 
     let cells = of_class(working, class);
     if head.mark == 0 && !carry(&head.ops[usize::from(head.done)], cells) {
         cells.copy_from_slice(&committed[CELLS * class..][..CELLS]);
-        head.mark = DECLINED;
+        head.mark = head.done + 1;
     }
     head.done += 1;
     if head.done < head.count {

@@ -7,7 +7,7 @@ use crate::aim::{any_class, any_slot, byte_from};
 use crate::subject::Subject;
 use crate::view::{head, is_confirmed, is_head, is_used, ops_and_past, place_of, used};
 use model::random::Random;
-use shpendorak::raw::{ADD, CELLS, CLASSES, MOVE, NEED, Op, PUT, Site, Slot};
+use shpendorak::raw::{ADD, CELLS, CLASSES, MOST_OPS, MOVE, NEED, Op, PUT, Site, Slot};
 
 /// None has more done than it has operations.
 pub fn done_is_within_ops(subject: &Subject) -> bool {
@@ -59,7 +59,7 @@ pub fn only_heads_are_declined(subject: &Subject) -> bool {
 pub fn declined_behind_head(random: &mut Random, subject: &mut Subject) {
     let site = &mut subject.site;
     if let Some(at) = any_slot(random, site, |at, slot| is_used(slot) && !is_head(site, at)) {
-        site.slots[at].mark = 1;
+        site.slots[at].mark = 1 + random.below(MOST_OPS) as u8;
     }
 }
 
@@ -108,21 +108,22 @@ fn carry_out(op: &Op, cells: &mut [u32]) -> bool {
     true
 }
 
-/// The committed cells of a class with the head's done operations carried out on them; none if one
-/// of those declined.
-fn worked(subject: &Subject, class: usize, head: &Slot) -> Option<Vec<u32>> {
+/// The committed cells of a class with the head's done operations carried out on them, or the place
+/// of the first of those that declined.
+fn worked(subject: &Subject, class: usize, head: &Slot) -> Result<Vec<u32>, u8> {
     let mut cells = cells_of(&subject.committed, class).to_vec();
-    let mut done = ops_and_past(head).0.iter().take(usize::from(head.done));
-    done.all(|op| carry_out(op, &mut cells)).then_some(cells)
+    let done = ops_and_past(head).0.iter().take(usize::from(head.done));
+    match (1..).zip(done).find(|(_, op)| !carry_out(op, &mut cells)) {
+        Some((place, _)) => Err(place),
+        None => Ok(cells),
+    }
 }
 
-/// A head is marked declined exactly if one of its done operations declined.
+/// A head's mark is the place of the first of its done operations that declined, or 0.
 pub fn marks_are_right(subject: &Subject) -> bool {
     (0..CLASSES).all(|class| {
-        head(&subject.site, class).is_none_or(|head| {
-            let declined = worked(subject, class, head).is_none();
-            head.mark == u8::from(declined)
-        })
+        head(&subject.site, class)
+            .is_none_or(|head| head.mark == worked(subject, class, head).err().unwrap_or(0))
     })
 }
 
@@ -130,8 +131,9 @@ pub fn marks_are_right(subject: &Subject) -> bool {
 pub fn mark_wrong(random: &mut Random, subject: &mut Subject) {
     let site = &mut subject.site;
     if let Some(at) = any_slot(random, site, |at, _| is_head(site, at)) {
-        let mark = site.slots[at].mark;
-        site.slots[at].mark = random.pick(&[mark ^ 1, 2, u8::MAX]);
+        let Slot { mark, done, .. } = site.slots[at];
+        let wrong = [mark.wrapping_add(1), mark.wrapping_sub(1), 0, done, u8::MAX];
+        site.slots[at].mark = random.pick(&wrong);
     }
 }
 

@@ -64,8 +64,8 @@ fn a_promise_holds_through_all_other_calls() {
         site.work(4);
         assert_eq!([site.look(5), site.look(2)], [Answer::ToDo(2), Answer::ToDo(5)]);
     }
-    let answer = Answer::Committed { id: 5, number: 1, declined: false, slot: 4 };
+    let answer = Answer::Committed { id: 5, number: 1, mark: 0, slot: 4 };
     assert_eq!(work(&mut site, 3, 2), answer);
-    let answer = Answer::Committed { id: 2, number: 2, declined: false, slot: 1 };
+    let answer = Answer::Committed { id: 2, number: 2, mark: 0, slot: 1 };
     assert_eq!(work(&mut site, 3, 3), answer);
 }

@@ -16,7 +16,7 @@ fn site_with(cells: &[u32]) -> Site {
 
 /// Carries a request of one operation through in class 0; whether it declined.
 fn one(site: &mut Site, op: Op) -> bool {
-    through(site, 0, &[op])
+    through(site, 0, &[op]) == 1
 }
 
 /// The first two committed cells of class 0.
@@ -84,9 +84,9 @@ fn need_passes_at_the_amount_and_declines_below() {
 #[test]
 fn a_declining_need_after_a_put_leaves_the_committed_cell() {
     let mut site = site_with(&[3]);
-    assert!(through(&mut site, 0, &[put(0, 8), need(0, 9), put(1, 7)]));
+    assert_eq!(through(&mut site, 0, &[put(0, 8), need(0, 9), put(1, 7)]), 2);
     assert_eq!(two_cells(&site), [3, 0]);
-    assert!(!through(&mut site, 0, &[put(0, 8), need(0, 8)]));
+    assert_eq!(through(&mut site, 0, &[put(0, 8), need(0, 8)]), 0);
     assert_eq!(two_cells(&site), [8, 0]);
 }
 
@@ -101,9 +101,21 @@ fn operations_after_a_decline_take_a_call_each_and_change_nothing() {
     }
     assert_eq!(site.work(0), Answer::Executed { id: 1 });
     let number = site.confirmations + 1;
-    let answer = Answer::Committed { id: 1, number, declined: true, slot: 0 };
+    let answer = Answer::Committed { id: 1, number, mark: 2, slot: 0 };
     assert_eq!(site.confirm(1, number), answer);
     assert_eq!(site.classes[0].committed, before);
+}
+
+#[test]
+fn the_mark_is_the_place_of_the_first_that_declines() {
+    let site = site_with(&[4]);
+    let mark = |ops: &[Op]| through(&mut site.clone(), 0, ops);
+    assert_eq!(mark(&[need(0, 5)]), 1);
+    assert_eq!(mark(&[need(0, 5), put(0, 5)]), 1);
+    let [up, high] = [add(0, 1), need(0, 11)];
+    assert_eq!(mark(&[up, up, up, up, up, up, high]), 7);
+    assert_eq!(mark(&[up, need(0, 5), shift(0, 1, 6), up, high]), 3);
+    assert_eq!(mark(&[up, up, up, up, up, up, need(0, 10)]), 0);
 }
 
 #[test]
@@ -138,11 +150,11 @@ fn a_head_put_back_is_not_declined_any_more() {
     offer(&mut site, 1, 0, &[need(0, 5), put(1, 1)]);
     offer(&mut site, 2, 0, &[put(0, 5)]);
     work(&mut site, 0, 2);
-    assert!(site.classes[0].queue[0].declined);
+    assert_eq!(site.classes[0].queue[0].mark, 1);
     assert_eq!(confirm(&mut site, 2), Answer::Waiting { id: 2, w: 1, put_back: 1 });
-    assert!(!site.classes[0].queue[1].declined);
+    assert_eq!(site.classes[0].queue[1].mark, 0);
     work(&mut site, 0, 3);
-    let answer = Answer::Committed { id: 1, number: 2, declined: false, slot: 0 };
+    let answer = Answer::Committed { id: 1, number: 2, mark: 0, slot: 0 };
     assert_eq!(confirm(&mut site, 1), answer);
     assert_eq!(two_cells(&site), [5, 1]);
 }
@@ -155,7 +167,7 @@ fn confirming_an_active_head_keeps_what_is_done() {
     assert_eq!(site.classes[2].queue[0].done, 2);
     assert_eq!(site.classes[2].working[0], 1);
     assert_eq!(work(&mut site, 2, 2), Answer::Stepped { id: 1, done: 4 });
-    let answer = Answer::Committed { id: 1, number: 1, declined: false, slot: 0 };
+    let answer = Answer::Committed { id: 1, number: 1, mark: 0, slot: 0 };
     assert_eq!(site.work(2), answer);
 }
 
@@ -198,7 +210,7 @@ fn the_129th_is_taken_after_a_commit_in_the_slot_just_freed() {
     }
     assert_eq!(offer(&mut site, 129, 0, &[put(0, 1)]), Answer::Refused(SITE_FULL));
     confirm(&mut site, 70);
-    let answer = Answer::Committed { id: 70, number: 1, declined: false, slot: 69 };
+    let answer = Answer::Committed { id: 70, number: 1, mark: 0, slot: 69 };
     assert_eq!(site.work(5), answer);
     let answer = Answer::Queued { id: 129, class: 0, place: 9, slot: 69 };
     assert_eq!(offer(&mut site, 129, 0, &[put(0, 1)]), answer);
@@ -215,7 +227,7 @@ fn a_class_may_hold_all_128_and_then_w_is_896() {
         assert_eq!(confirm(&mut site, id), Answer::Waiting { id, w: 7 * count, put_back: 0 });
     }
     assert_eq!(confirm(&mut site, 128), Answer::Waiting { id: 128, w: 896, put_back: 0 });
-    let answer = Answer::Committed { id: 128, number: 128, declined: false, slot: 127 };
+    let answer = Answer::Committed { id: 128, number: 128, mark: 0, slot: 127 };
     assert_eq!(work(&mut site, 4, 896), answer);
 }
 

@@ -47,10 +47,10 @@ fn each_answer_has_its_line() {
         (Answer::Stepped { id: u32::MAX, done: 6 }, "stepped 4294967295 6"),
         (Answer::Executed { id: 5 }, "executed 5"),
         (
-            Answer::Committed { id: 5, number: u32::MAX, declined: true, slot: 0 },
-            "committed 5 4294967295 1 0",
+            Answer::Committed { id: 5, number: u32::MAX, mark: 7, slot: 0 },
+            "committed 5 4294967295 7 0",
         ),
-        (Answer::Committed { id: 5, number: 1, declined: false, slot: 9 }, "committed 5 1 0 9"),
+        (Answer::Committed { id: 5, number: 1, mark: 0, slot: 9 }, "committed 5 1 0 9"),
         (Answer::Waiting { id: 5, w: 896, put_back: 0 }, "waiting 5 896 0"),
         (Answer::Value(u32::MAX), "value 4294967295"),
         (Answer::Refused(13), "refused 13"),

@@ -50,13 +50,13 @@ pub fn work(site: &mut Site, class: u8, times: usize) -> Answer {
     answers.last().expect("at least one work call")
 }
 
-/// Offers, confirms and works a request with a new id to its commit; whether it declined.
-pub fn through(site: &mut Site, class: u8, ops: &[Op]) -> bool {
+/// Offers, confirms and works a request with a new id to its commit; its mark.
+pub fn through(site: &mut Site, class: u8, ops: &[Op]) -> usize {
     let id = FIRST_ID + site.confirmations;
     offer(site, id, class, ops);
     confirm(site, id);
     match work(site, class, ops.len()) {
-        Answer::Committed { id: committed, declined, .. } if committed == id => declined,
+        Answer::Committed { id: committed, mark, .. } if committed == id => mark,
         other => panic!("{other:?} instead of a commit"),
     }
 }

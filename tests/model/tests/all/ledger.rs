@@ -148,10 +148,10 @@ impl Ledger {
     fn enter_commit(&mut self, class: usize, answer: &Answer) {
         let next = self.confirmed[class][self.committed[class]].clone();
         let run = run_request(&self.cells[class], &next.request, &mut self.outcomes);
-        let Answer::Committed { id, number, declined, .. } = *answer else {
+        let Answer::Committed { id, number, mark, .. } = *answer else {
             panic!("{answer:?} is no commit");
         };
-        assert_eq!((id, number, declined), (next.id, next.number, run.is_none()));
+        assert_eq!((id, number, mark), (next.id, next.number, run.err().unwrap_or(0)));
         self.cells[class] = run.unwrap_or(self.cells[class]);
         self.committed[class] += 1;
         self.queued.remove(&id);
@@ -186,10 +186,10 @@ impl Ledger {
     }
 }
 
-/// The cells after a whole request; none if it declines.
-fn run_request(start: &Cells, request: &Noted, outcomes: &mut Outcomes) -> Option<Cells> {
+/// The cells after a whole request, or the place of the operation that declines.
+fn run_request(start: &Cells, request: &Noted, outcomes: &mut Outcomes) -> Result<Cells, usize> {
     let mut cells = *start;
-    for &(code, cell, second, amount) in &request.ops {
+    for (place, &(code, cell, second, amount)) in (1..).zip(&request.ops) {
         let enough = cells[cell] >= amount;
         let fits = cells[second] + amount < SPAN;
         match (code, enough, fits) {
@@ -203,12 +203,12 @@ fn run_request(start: &Cells, request: &Noted, outcomes: &mut Outcomes) -> Optio
             _ => panic!("code {code} was accepted"),
         }
         if (code >= 3 && !enough) || (code == 4 && !fits) {
-            return None;
+            return Err(place);
         }
         if code == 4 {
             cells[cell] -= amount;
             cells[second] += amount;
         }
     }
-    Some(cells)
+    Ok(cells)
 }

@@ -82,7 +82,7 @@ fn the_last_number_of_all_is_taken() {
     site.commits -= 1;
     site.confirmations -= 1;
     site.check();
-    let answer = Answer::Committed { id: 3, number: u32::MAX, declined: false, slot: 2 };
+    let answer = Answer::Committed { id: 3, number: u32::MAX, mark: 0, slot: 2 };
     assert_eq!(site.confirm(3, u32::MAX), answer);
     site.check();
     refused(site, 6, |site| site.confirm(2, 0));

@@ -134,12 +134,14 @@ fn broken_heads_are_noticed() {
     breaks("none has more done than operations", |site| site.classes[1].queue[0].done = 4);
     let only = "only a head has anything done";
     breaks(only, |site| site.classes[0].queue[1].done = 1);
-    breaks(only, |site| site.classes[0].queue[2].declined = true);
+    breaks(only, |site| site.classes[0].queue[2].mark = 1);
     breaks("a confirmed head is not executed", |site| site.classes[0].queue[0].done = 3);
-    let declined = "declined exactly if one declined";
-    breaks(declined, |site| site.classes[0].queue[0].declined = true);
-    breaks(declined, |site| site.classes[1].queue[0].declined = false);
-    breaks(declined, |site| site.classes[1].queue[0].done = 1);
+    let first = "the mark is the first that declined";
+    breaks(first, |site| site.classes[0].queue[0].mark = 1);
+    for wrong in [0, 1, 3] {
+        breaks(first, |site| site.classes[1].queue[0].mark = wrong);
+    }
+    breaks(first, |site| site.classes[1].queue[0].done = 1);
 }
 
 #[test]

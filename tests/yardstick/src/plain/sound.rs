@@ -1,7 +1,7 @@
 //! The check that every call begins with: each rule by the same walk as in the archive, on references.
 
+use crate::plain::FREE;
 use crate::plain::cells::carry;
-use crate::plain::{DECLINED, FREE};
 use crate::raw::*;
 use model::record::{CELLS, MOVE, PUT};
 
@@ -170,9 +170,9 @@ fn head_ok(head: &Slot, committed: &[u32], working: &[u32]) -> bool {
     }
     let mut cells = [0; CELLS];
     cells.copy_from_slice(committed);
-    if head.ops[..usize::from(head.done)].iter().all(|op| carry(op, &mut cells)) {
-        head.mark == 0 && working == cells
-    } else {
-        head.mark == DECLINED && working == committed
+    let done = &head.ops[..usize::from(head.done)];
+    match done.iter().position(|op| !carry(op, &mut cells)) {
+        None => head.mark == 0 && working == cells,
+        Some(place) => usize::from(head.mark) == place + 1 && working == committed,
     }
 }

@@ -3,66 +3,63 @@ use Prim.Native.Nat.{_≤_, _-_}
 use native.Mathlib.Omega.{arith}
 use native.Mathlib.Numerals.{add-one}
 use mathlib.Core.Path.{_≡_, sym, ap, _∙_}
-use mathlib.Core.Option.{some}
 use lib.ListN.{length, take}
 use borrow.Author.Needs.{needs}
-use borrow.Author.Tests.{not-true, not-false}
+use borrow.Author.Tests.{ne-eqb}
 use Rattle.plain.specs.Sizes.{cellCount}
 use Rattle.plain.specs.Ops as P
 use Rattle.slots.specs.Meaning.{requestOf}
 use Rattle.slots.proofs.Shape.{seven}
-use Rattle.slots.proofs.Records.{held}
 use Rattle.slots.proofs.Running.{one-more, stays-declined}
 use Rattle.slots.proofs.steps.run_done.Statement.{statement}
 use Rattle.slots.proofs.steps.run_done.Tie as tie
 
 abbrev Inv-loop : tie.InvT-loop
-Inv-loop from v n work₀ k₀ work k = (k ≤ n) × (P.carryAll (take k (requestOf v .ops)) from ≡ some work) × (length work ≡ cellCount)
+Inv-loop v from work₀ k₀ work k = (k ≤ v .done) × (P.carryAll (take k (requestOf v .ops)) from ≡ P.carried work) × (length work ≡ cellCount)
 
 abbrev μ-loop : tie.MeasureT-loop
-μ-loop from v n work₀ k₀ work k = n - k
+μ-loop v from work₀ k₀ work k = v .done - k
 
 loop-holds : tie.Need-loop-holds Inv-loop μ-loop
 loop-holds c =
     let e = c .before .copy-cells .ensures in
-    (search needs, ap some (sym e), ap length e ∙ c .before .before .before .before .pre .0)
+    (search needs, ap P.carried (sym e), ap length e ∙ c .before .before .before .before .pre .0)
 
-carry-requires : tie.Need-carry-requires Inv-loop μ-loop
-carry-requires c κs =
-    let start = c .before .before .before .before .before .before .before .before in
+carry-at-requires : tie.Need-carry-at-requires Inv-loop μ-loop
+carry-at-requires c κs =
     let loop = c .before .before .before .loop in
-    let v = start .args .t1 in
-    (loop .inv .2, held v (seven v _ (start .good .0)) (start .pre .1) .ops (loop .k) (omega arith) .within (omega arith))
+    let pre = c .before .before .before .before .before .before .before .before .pre in
+    (loop .inv .2, pre .1, omega arith)
 
 returns : tie.Need-returns Inv-loop μ-loop
 returns c =
     let start = c .before .before .before .before .before .before .before .before .before .before .before .before .before .before in
-    let carry = c .before .before .before .before .before .carry in
+    let carry = c .before .before .before .before .before .carry-at in
     let loop = c .before .before .before .before .before .before .before .before .before .loop in
-    let r = not-true (carry .result) (c .before .before .before .if1 .taken) in
-    let v = start .args .t1 in
+    let m = carry .result in
+    let r = ne-eqb m 0 (c .before .before .before .if2 .taken) in
+    let v = start .args .v in
     let base = start .args .from .now in
     let good = seven v _ (start .good .0) in
     let more = one-more v good (start .pre .1) base (loop .k) (omega arith) (loop .work) (loop .inv .1) in
-    let n = stays-declined v good (start .pre .1) base (loop .k) (omega arith) (v .done) (omega arith) (more ∙ carry .ensures ∙ rw r) in
+    let n = stays-declined v good (start .pre .1) base (loop .k) (omega arith) (v .done) m (omega arith) (more ∙ carry .ensures ∙ rw r) in
     record { mark-is = rw n; cells = rw n (c .before .copy-cells2 .ensures) }
 
 loop-again : tie.Need-loop-again Inv-loop μ-loop
 loop-again c =
     let start = c .before .before .before .before .before .before .before .before .before .before .before in
-    let carry = c .before .before .carry in
+    let carry = c .before .before .carry-at in
     let loop = c .before .before .before .before .before .before .loop in
-    let r = not-false (carry .result) (c .if1 .left) in
-    let v = start .args .t1 in
+    let v = start .args .v in
     let base = start .args .from .now in
     let good = seven v _ (start .good .0) in
     let more = one-more v good (start .pre .1) base (loop .k) (omega arith) (loop .work) (loop .inv .1) in
-    (search needs, rw add-one (more ∙ carry .ensures ∙ rw r), search needs)
+    (search needs, rw add-one (more ∙ carry .ensures ∙ rw (c .if2 .left)), search needs)
 
 returns-2 : tie.Need-returns-2 Inv-loop μ-loop
 returns-2 c =
-    let loop = c .before .loop in
-    let e : loop .k ≡ c .before .before .before .before .before .before .args .t1 .done = omega arith in
+    let loop = c .before .before .loop in
+    let e : loop .k ≡ c .before .before .before .before .before .before .before .args .v .done = omega arith in
     let n = rw e at (loop .inv .1) in
     record { mark-is = rw n; cells = rw n }
 
@@ -73,13 +70,10 @@ run-done-spec =
     Inv-loop
     μ-loop
     (λ c. search needs)
-    (λ c. search needs)
     (λ c κs. search needs)
     loop-holds
     (λ c. search needs)
-    (λ c. search needs)
-    (λ c. search needs)
-    carry-requires
+    carry-at-requires
     (λ c. search needs)
     (λ c κs. search needs)
     returns
