@@ -1,5 +1,6 @@
 /* Two bookings on one site, from the wire to their commits: class 3 is a bay, cell 0 its free
- * hours, cell 1 its booked hours. Prints a line for each call, as drive does. */
+ * hours, cell 1 its booked hours. Prints a line for each call, as drive does, and at the end the
+ * text of a booking. */
 #include "shpendorak.h"
 
 #include <inttypes.h>
@@ -26,6 +27,7 @@ static const struct {
     [SHPENDORAK_COMMITTED] = {"committed", 4},     [SHPENDORAK_WAITING] = {"waiting", 3},
     [SHPENDORAK_VALUE] = {"value", 1},             [SHPENDORAK_TO_DO] = {"to-do", 1},
     [SHPENDORAK_UNCONFIRMED] = {"unconfirmed", 0}, [SHPENDORAK_STARTED] = {"started", 0},
+    [SHPENDORAK_WRITTEN] = {"written", 1},
 };
 
 /* Prints the last answer: its place, a word, numbers. */
@@ -107,6 +109,17 @@ static void look(struct host *host, uint64_t id)
     tell(host);
 }
 
+/* Writes the text of a record and prints it. */
+static void show(struct host *host, const uint8_t *booking)
+{
+    uint8_t text[SHPENDORAK_LONGEST_TEXT];
+
+    shpendorak_write_text(booking, SHPENDORAK_RECORD_BYTES, text, sizeof text, host->answer);
+    tell(host);
+    if (host->answer[0] == SHPENDORAK_WRITTEN)
+        fwrite(text, 1, (size_t)host->answer[1], stdout);
+}
+
 int main(void)
 {
     static struct host host;
@@ -134,5 +147,6 @@ int main(void)
     work(&host);           /* nothing to do: refused 11 */
     host.site.low ^= 1;    /* a bit of the map of used slots is damaged: refused 2 */
     read_cell(&host, FREE_HOURS);
+    show(&host, film);     /* a text needs no site */
     return fflush(stdout) == 0 ? 0 : 1;
 }

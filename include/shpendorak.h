@@ -9,6 +9,8 @@
  * each pointer points to as many elements as its length says and is not null, not even where the
  * length is 0; the answer has six numbers; what a call may write overlaps nothing else it is lent.
  *
+ * A record may also be typed and shown as a text; these two calls have no site and no cells.
+ *
  * A site is plain data. It may be copied, stored and brought back; one that is damaged is refused.
  * A call that is not given const cells may change them, and keeps no pointer.
  */
@@ -31,6 +33,7 @@ extern "C" {
 #define SHPENDORAK_KEPT 256         /* ids of so many of the last confirmations are kept */
 #define SHPENDORAK_MOST_OPS 7       /* a request has 1 to 7 operations */
 #define SHPENDORAK_RECORD_BYTES 64  /* bytes of a request record */
+#define SHPENDORAK_LONGEST_TEXT 168 /* bytes of the longest text of a record */
 #define SHPENDORAK_NUMBERS 6        /* numbers of an answer */
 
 /* The request record, 64 bytes, numbers low byte first:
@@ -46,7 +49,7 @@ enum shpendorak_code {
 
 /* What an answer is: its first number. The others follow in this order, then zeros. */
 enum shpendorak_answer {
-    SHPENDORAK_REFUSED = 0,     /* the refusal's number */
+    SHPENDORAK_REFUSED = 0,     /* the refusal's number, and for BAD_TEXT the first bad line */
     SHPENDORAK_QUEUED = 1,      /* id, class, place in its queue (1 is the head), slot */
     SHPENDORAK_STEPPED = 2,     /* id, operations done */
     SHPENDORAK_EXECUTED = 3,    /* id */
@@ -55,14 +58,15 @@ enum shpendorak_answer {
     SHPENDORAK_VALUE = 6,       /* the committed cell */
     SHPENDORAK_TO_DO = 7,       /* W */
     SHPENDORAK_UNCONFIRMED = 8, /* no numbers */
-    SHPENDORAK_STARTED = 9      /* no numbers */
+    SHPENDORAK_STARTED = 9,     /* no numbers */
+    SHPENDORAK_WRITTEN = 10     /* the length of the text or record written */
 };
 
 /* Why a call did not act. Where several apply, the smallest is given; but 14 comes between 4 and 5. */
 enum shpendorak_refusal {
-    SHPENDORAK_WRONG_CELLS = 1,       /* either run of cells is not 1,024 long: all calls */
-    SHPENDORAK_UNSOUND = 2,           /* the site is not sound: all calls but fresh */
-    SHPENDORAK_BAD_RECORD = 3,        /* the record is not 64 bytes or breaks a rule: offer */
+    SHPENDORAK_WRONG_CELLS = 1,       /* either run of cells is not 1,024 long: all with cells */
+    SHPENDORAK_UNSOUND = 2,           /* the site is not sound: all with a site */
+    SHPENDORAK_BAD_RECORD = 3,        /* not 64 bytes, or a rule is broken: offer, write_text */
     SHPENDORAK_ID_QUEUED = 4,         /* the id is queued: offer */
     SHPENDORAK_SITE_FULL = 5,         /* 128 requests are queued: offer */
     SHPENDORAK_NUMBERS_USED_UP = 6,   /* 4,294,967,295 confirmations were taken: confirm */
@@ -72,7 +76,9 @@ enum shpendorak_refusal {
     SHPENDORAK_NO_SUCH_CLASS = 10,    /* the class is above 15: work, read */
     SHPENDORAK_NOTHING_TO_DO = 11,    /* the queue is empty, or its head is executed: work */
     SHPENDORAK_NO_SUCH_CELL = 12,     /* the cell is above 63: read */
-    SHPENDORAK_ID_KEPT = 14           /* the id is among the last 256 confirmed: offer */
+    SHPENDORAK_ID_KEPT = 14,          /* the id is among the last 256 confirmed: offer */
+    SHPENDORAK_BAD_TEXT = 15,         /* the text is no record's: read_text */
+    SHPENDORAK_SHORT_BUFFER = 16      /* the buffer is shorter than the result: both of texts */
 };
 
 /* One operation of a request. */
@@ -163,6 +169,31 @@ shpendorak_site shpendorak_look(shpendorak_site site,
                                 const uint32_t *working, size_t working_len,
                                 uint64_t id,
                                 uint64_t answer[SHPENDORAK_NUMBERS]);
+
+/* The text of a record: a line with id and class, then a line for each operation with its name
+ * (put, add, need, move), cell, second cell for a move only, and amount, as in
+ *   7 3
+ *   put 0 100
+ *   move 1 2 5
+ * Numbers are decimal without leading zeros, single blanks split, and each line, also the last,
+ * ends with a newline. No zero byte ends a text. A record has one text only, of at most
+ * SHPENDORAK_LONGEST_TEXT bytes, and nothing else is read. */
+
+/* Write text: writes the text of a record into the front of a lent buffer. Past the text, and on a
+ * refusal, nothing is written.
+ * Answers WRITTEN length.
+ * Refuses BAD_RECORD, SHORT_BUFFER. */
+void shpendorak_write_text(const uint8_t *booking, size_t booking_len,
+                           uint8_t *text, size_t text_len,
+                           uint64_t answer[SHPENDORAK_NUMBERS]);
+
+/* Read text: writes the record of a text into the front of a lent buffer. Past the record, and on a
+ * refusal, nothing is written.
+ * Answers WRITTEN length, which is SHPENDORAK_RECORD_BYTES.
+ * Refuses BAD_TEXT with the first bad line, from 1, a missing one at its place; SHORT_BUFFER. */
+void shpendorak_read_text(const uint8_t *text, size_t text_len,
+                          uint8_t *booking, size_t booking_len,
+                          uint64_t answer[SHPENDORAK_NUMBERS]);
 
 #ifdef __cplusplus
 }

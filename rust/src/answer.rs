@@ -1,8 +1,11 @@
 //! What a call answers, and why it refuses.
 
-use crate::raw::{self, Numbers};
+use crate::raw::{self, NUMBERS, Numbers};
 use std::error::Error;
 use std::fmt;
+
+/// An answer not given yet.
+pub const NO_ANSWER: Numbers = [0; NUMBERS];
 
 /// What a call answers when it acts.
 #[derive(Clone, Copy, Debug, PartialEq, Eq)]

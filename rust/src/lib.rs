@@ -3,6 +3,8 @@
 //! The caller owns the site and two runs of 1,024 cells and lends all three to each call. Any site,
 //! cells, record and numbers are taken: what is wrong is refused and nothing is touched.
 //!
+//! A record may also be typed and shown as a text, by [`read_text`] and [`write_text`].
+//!
 //! ```
 //! use shpendorak::{Answer, RUN_LENGTH, Refusal, Site};
 //!
@@ -25,6 +27,8 @@
 mod answer;
 pub mod raw;
 mod site;
+mod text;
 
 pub use answer::{Answer, Refusal};
-pub use raw::{Op, RUN_LENGTH, Site, Slot};
+pub use raw::{LONGEST_TEXT, Op, RECORD_BYTES, RUN_LENGTH, Site, Slot};
+pub use text::{TextRefusal, read_text, write_text};

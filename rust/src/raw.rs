@@ -16,6 +16,8 @@ pub const KEPT: usize = 256;
 pub const MOST_OPS: usize = 7;
 /// Bytes of a request record.
 pub const RECORD_BYTES: usize = 64;
+/// Bytes of the longest text of a record.
+pub const LONGEST_TEXT: usize = 168;
 /// Numbers of an answer: what it is, then up to five numbers.
 pub const NUMBERS: usize = 6;
 
@@ -28,7 +30,7 @@ pub const NEED: u8 = 3;
 /// Move: takes the amount from the cell and gives it to the second, or declines.
 pub const MOVE: u8 = 4;
 
-/// Refused: the refusal's number.
+/// Refused: the refusal's number, and for a bad text its first bad line.
 pub const REFUSED: u64 = 0;
 /// Queued: id, class, place, slot.
 pub const QUEUED: u64 = 1;
@@ -48,6 +50,8 @@ pub const TO_DO: u64 = 7;
 pub const UNCONFIRMED: u64 = 8;
 /// A fresh site: no numbers.
 pub const STARTED: u64 = 9;
+/// A text or a record written into the lent buffer: its length.
+pub const WRITTEN: u64 = 10;
 
 /// An answer as its six numbers.
 pub type Numbers = [u64; NUMBERS];
@@ -176,4 +180,22 @@ unsafe extern "C" {
         id: u64,
         answer: *mut Numbers,
     ) -> Site;
+
+    /// Writes the text of a record into a lent buffer.
+    pub fn shpendorak_write_text(
+        booking: *const u8,
+        booking_len: usize,
+        text: *mut u8,
+        text_len: usize,
+        answer: *mut Numbers,
+    );
+
+    /// Reads a text and writes its record into a lent buffer.
+    pub fn shpendorak_read_text(
+        text: *const u8,
+        text_len: usize,
+        booking: *mut u8,
+        booking_len: usize,
+        answer: *mut Numbers,
+    );
 }

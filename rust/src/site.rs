@@ -1,10 +1,7 @@
 //! The calls of a site over slices.
 
-use crate::answer::{Answer, Refusal, answered};
-use crate::raw::{self, NUMBERS, Numbers, Site};
-
-/// An answer not given yet.
-const NO_ANSWER: Numbers = [0; NUMBERS];
+use crate::answer::{Answer, NO_ANSWER, Refusal, answered};
+use crate::raw::{self, Site};
 
 impl Site {
     /// A fresh site: nothing queued, both counts 0, and all cells of both runs cleared.

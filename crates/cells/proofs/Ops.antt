@@ -37,16 +37,16 @@ not-used k l f =
     by-test (ltb k 4) (λ y. ltb-true k 4 y) (λ n. let e : k ≡ 4 = omega (arith, ltb-false k 4 n) in no _ (rw e) f)
 
 -- by the code
-by-code : (X : P.Op → Type 0) (o : Op) → 1 ≤ o .code → o .code ≤ 4 → (o .code < 4 → X (P.put (o .cell) (o .amount)))
-    → (o .code < 4 → X (P.add (o .cell) (o .amount))) → (o .code < 4 → X (P.need (o .cell) (o .amount)))
+pub by-code : (X : P.Op → Type 0) (o : Op) → 1 ≤ o .code → o .code ≤ 4 → (o .code ≡ 1 → X (P.put (o .cell) (o .amount)))
+    → (o .code ≡ 2 → X (P.add (o .cell) (o .amount))) → (o .code ≡ 3 → X (P.need (o .cell) (o .amount)))
     → (o .code ≡ 4 → X (P.move (o .cell) (o .second) (o .amount))) → X (opOf o)
 by-code X o l m a b c d =
     by-test (eqb (o .code) 1)
-    (λ t. rw t (a (omega (arith, eqb-true (o .code) 1 t))))
+    (λ t. rw t (a (eqb-true (o .code) 1 t)))
     (λ f. by-test (eqb (o .code) 2)
-    (λ t. rw (f, t) (b (omega (arith, eqb-true (o .code) 2 t))))
+    (λ t. rw (f, t) (b (eqb-true (o .code) 2 t)))
     (λ g. by-test (eqb (o .code) 3)
-    (λ t. rw (f, g, t) (c (omega (arith, eqb-true (o .code) 3 t))))
+    (λ t. rw (f, g, t) (c (eqb-true (o .code) 3 t)))
     (λ h. rw (f, g, h) (d (omega (arith, eqb-false (o .code) 1 f, eqb-false (o .code) 2 g, eqb-false (o .code) 3 h))))))
 
 -- the facts from the rules, and back
@@ -66,7 +66,7 @@ facts {o} h =
       second = λ f. absurd (omega arith);
       amount = ltb-true _ _ (r .1 .0);
     } in
-    by-code (λ p. P.opOk p ≡ true → OpFacts o) o l m few few few
+    by-code (λ p. P.opOk p ≡ true → OpFacts o) o l m (λ e. few (omega arith)) (λ e. few (omega arith)) (λ e. few (omega arith))
     (λ f e.
     let r = all-true (P.opRules (P.move (o .cell) (o .second) (o .amount))) e in
     record {

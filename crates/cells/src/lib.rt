@@ -20,16 +20,16 @@ pub const CELLS: usize = 64;
 pub const RUN: usize = CLASSES * CELLS;
 
 // The operation codes are 1 to 4.
-const PUT: u8 = 1;
+pub const PUT: u8 = 1;
 
-const ADD: u8 = 2;
+pub const ADD: u8 = 2;
 
-const NEED: u8 = 3;
+pub const NEED: u8 = 3;
 
-const MOVE: u8 = 4;
+pub const MOVE: u8 = 4;
 
 // By operation code: does the operation use its second cell?
-const SECOND: [bool; 5] = [false, false, false, false, true];
+pub const SECOND: [bool; 5] = [false, false, false, false, true];
 
 #[repr(C)]
 pub struct Op {

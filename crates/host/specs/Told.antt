@@ -4,6 +4,7 @@ use mathlib.Core.Path.{_≡_}
 use mathlib.Core.List.{List, [], _∷_}
 use Rattle.plain.specs.Steps.{Answer, refused, queued, stepped, executed, committed, waiting, value, toDo, unconfirmed}
 use Rattle.plain.specs.Site.{Call}
+use Rattle.text.specs.Calls as T
 use Rattle.store.specs.Store.{Store}
 use Rattle.store.specs.Calls.{State, Called, Started}
 
@@ -29,6 +30,18 @@ pub record Told (x : State) (k : Call) (y : State) (numbers : List ℕ) : Type 0
   pub answer : Answer
   pub called : Called x k y answer
   pub says : numbers ≡ told answer
+
+-- of the text form: 10 and the length of what was written; or the refusal, that of a bad text with its first bad line
+abbrev pub toldText : T.Answer → List ℕ
+toldText (T.wrote length) = 10 ∷ length ∷ 0 ∷ 0 ∷ 0 ∷ 0 ∷ []
+toldText (T.refused number) = 0 ∷ number ∷ 0 ∷ 0 ∷ 0 ∷ 0 ∷ []
+toldText (T.refusedAt number line) = 0 ∷ number ∷ line ∷ 0 ∷ 0 ∷ 0 ∷ []
+
+-- A HOST'S TEXT: what was done of the text form answered so, and the numbers are those of its answer
+pub record ToldText (Done : T.Answer → Type 0) (numbers : List ℕ) : Type 0 where
+  pub answer : T.Answer
+  pub done : Done answer
+  pub says : numbers ≡ toldText answer
 
 -- A HOST'S FRESH START: the start beneath was made, and the numbers say whether it was refused
 pub record ToldFresh (base wrk : List ℕ) (site : Store) (base' wrk' numbers : List ℕ) : Type 0 where

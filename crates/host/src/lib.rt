@@ -1,10 +1,12 @@
 // The calls for hosts in C and Rust: a site by value in and out, cells and record as slices, the answer as six numbers in a lent array.
 ghost use mathlib.Core.Path.{_≡_};
 ghost use Rattle.plain.specs.Site.{offer, confirm, work, read, look};
+ghost use Rattle.text.specs.Calls as T;
 ghost use Rattle.site.specs.Held.{store, stateOf, answerOf};
-ghost use Rattle.host.specs.Told.{told, toldFresh, Told, ToldFresh};
+ghost use Rattle.host.specs.Told.{told, toldFresh, toldText, Told, ToldFresh, ToldText};
 use site::Answer;
 use site::Site;
+use text::Outcome;
 
 // The answer of a call: what it is, then its numbers in document 01's order, then zeros.
 pub const NUMBERS: usize = 6;
@@ -29,6 +31,15 @@ const TO_DO: u64 = 7;
 const UNCONFIRMED: u64 = 8;
 
 const STARTED: u64 = 9;
+
+const WRITTEN: u64 = 10;
+
+// The refusals of the text form.
+const NO_RECORD: u64 = 3;
+
+const BAD_TEXT: u64 = 15;
+
+const SHORT_BUFFER: u64 = 16;
 
 // An answer as its six numbers.
 fn numbers_of(answer: Answer) -> [u64; NUMBERS]
@@ -79,6 +90,18 @@ fn numbers_of_fresh(refused: u8) -> [u64; NUMBERS]
         return [STARTED, 0, 0, 0, 0, 0];
     }
     [REFUSED, refused as u64, 0, 0, 0, 0]
+}
+
+// The six numbers of what came of a text.
+fn numbers_of_text(outcome: Outcome) -> [u64; NUMBERS]
+    ensures { λ r. ⌜ r ≡ toldText (T.answerOf outcome) ⌝ }
+{
+    match outcome {
+        Outcome::Length(n) => [WRITTEN, n as u64, 0, 0, 0, 0],
+        Outcome::NoRecord => [REFUSED, NO_RECORD, 0, 0, 0, 0],
+        Outcome::BadText(line) => [REFUSED, BAD_TEXT, line as u64, 0, 0, 0],
+        Outcome::TooShort => [REFUSED, SHORT_BUFFER, 0, 0, 0, 0],
+    }
 }
 
 // Clears both runs of cells and hands back a fresh site; or refuses with 1 and hands back an empty one.
@@ -182,4 +205,26 @@ pub extern "C" fn shpendorak_look(
     let given = site.look(committed, working, id);
     *answer = numbers_of(given);
     site
+}
+
+// Writes the text of a booking record into a buffer; or refuses with 3 or 16, and writes nothing.
+#[no_mangle]
+pub extern "C" fn shpendorak_write_text(
+    booking: &[u8],
+    text: &mut [u8],
+    answer: &mut [u64; NUMBERS],
+)
+    ensures { λ _. ⌜ ToldText (λ a. T.Wrote (now (booking .entry)) (now (text .entry)) a (now (text .exit))) (now (answer .exit)) ⌝ }
+{
+    let outcome = text::write(booking, text);
+    *answer = numbers_of_text(outcome);
+}
+
+// Writes the booking record of a text into a buffer; or refuses with 15 or 16, and writes nothing.
+#[no_mangle]
+pub extern "C" fn shpendorak_read_text(text: &[u8], booking: &mut [u8], answer: &mut [u64; NUMBERS])
+    ensures { λ _. ⌜ ToldText (λ a. T.Took (now (text .entry)) (now (booking .entry)) a (now (booking .exit))) (now (answer .exit)) ⌝ }
+{
+    let outcome = text::read(text, booking);
+    *answer = numbers_of_text(outcome);
 }

@@ -2,7 +2,8 @@
 use mathlib.Core.Path.{_≡_, refl}
 use mathlib.Core.List.{[], _∷_}
 use Rattle.plain.specs.Steps.{queued, unconfirmed}
-use Rattle.line.specs.Text.{count, decimal, blanked, lineWith, lineOf}
+use Rattle.decimal.specs.Decimal.{count, decimal, blanked}
+use Rattle.line.specs.Text.{lineWith, lineOf}
 
 -- 0
 nothing : decimal 0 ≡ 48 ∷ []

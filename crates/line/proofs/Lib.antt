@@ -1,3 +1,2 @@
--- how many digits a number has, and a few lines by computing
-pub mod Digits
+-- a few lines by computing
 pub mod Examples

@@ -1,21 +1,10 @@
 -- A line of output, as document 01 has it: the event's place in the input, a word, numbers. Assumes nothing.
-use Prim.Native.Nat.{ℕ, zero, suc, _/_}
-use mathlib.Core.Bool.{cond}
+use Prim.Native.Nat.{ℕ}
 use mathlib.Core.List.{List, [], _∷_, _++_}
-use lib.Dec.{ltb}
 use lib.ListN.{take}
-use Rattle.io.specs.Digits.{digits}
+use Rattle.decimal.specs.Decimal.{decimal, blanked}
 use Rattle.plain.specs.Steps.{Answer, refused, queued, stepped, executed, committed, waiting, value, toDo, unconfirmed}
 use Rattle.line.specs.declared.Line.{Line}
-
--- how many decimal digits n has: one, and one more for each division by ten that leaves something; n divisions are enough
-unfoldable pub count : ℕ → ℕ → ℕ
-count zero n = 1
-count (suc most) n = cond (ltb n 10) 1 (suc (count most (n / 10)))
-
--- a number's decimal digits in ASCII, with no zero in front
-unfoldable pub decimal : ℕ → List ℕ
-decimal n = digits 10 (count n n) n
 
 -- the words, in ASCII
 abbrev pub wordOf : Answer → List ℕ
@@ -40,11 +29,6 @@ numbersOf (waiting id w putBack) = id ∷ w ∷ putBack ∷ []
 numbersOf (value cell) = cell ∷ []
 numbersOf (toDo w) = w ∷ []
 numbersOf unconfirmed = []
-
--- each number with a blank before it
-unfoldable pub blanked : List ℕ → List ℕ
-blanked [] = []
-blanked (n ∷ ns) = (32 ∷ decimal n) ++ blanked ns
 
 -- the place, a blank, the word, the numbers, and a newline
 unfoldable pub lineWith : ℕ → List ℕ → List ℕ → List ℕ

@@ -4,7 +4,8 @@ ghost use mathlib.Core.Path.{_≡_};
 ghost use mathlib.Core.List.{_++_};
 ghost use lib.ListN.{length};
 ghost use Rattle.site.specs.Held.{answerOf};
-ghost use Rattle.line.specs.Text.{decimal, blanked, lineWith, lineOf, written};
+ghost use Rattle.decimal.specs.Decimal.{decimal, blanked};
+ghost use Rattle.line.specs.Text.{lineWith, lineOf, written};
 use site::Answer;
 
 // A line so far: the first len of the bytes.

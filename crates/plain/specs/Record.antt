@@ -15,9 +15,18 @@ byte b k = getD b k 0
 abbrev pub number : List ℕ → ℕ → ℕ
 number b k = byte b k + 256 * byte b (k + 1) + 65536 * byte b (k + 2) + 16777216 * byte b (k + 3)
 
--- The table by operation code, 0 to 4: does an operation use its second cell?
+-- The table by operation code, 0 to 4: does an operation use its second cell, and its name in ASCII
 abbrev pub usesSecond : List Bool
 usesSecond = false ∷ false ∷ false ∷ false ∷ true ∷ []
+
+abbrev pub names : List (List ℕ)
+names =
+    []
+    ∷ (112 ∷ 117 ∷ 116 ∷ [])
+    ∷ (97 ∷ 100 ∷ 100 ∷ [])
+    ∷ (110 ∷ 101 ∷ 101 ∷ 100 ∷ [])
+    ∷ (109 ∷ 111 ∷ 118 ∷ 101 ∷ [])
+    ∷ []
 
 -- the operation of a code
 abbrev pub opOf : (code cell second amount : ℕ) → Op

@@ -24,10 +24,10 @@ const COUNT_AT: usize = 5;
 
 const SPARE_AT: usize = 6;
 
-const FIRST_OP: usize = 8;
+pub const FIRST_OP: usize = 8;
 
 // An operation has 8 bytes: code, cell, second cell, one that is zero, and a 4-byte amount.
-const OP_SIZE: usize = 8;
+pub const OP_SIZE: usize = 8;
 
 // Byte `at`, as a word.
 fn byte_at(bytes: &[u8], at: usize) -> u32

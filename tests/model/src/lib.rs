@@ -13,4 +13,5 @@ pub mod site;
 pub mod sound;
 pub mod stream;
 pub mod tally;
+pub mod text;
 pub mod typed;

@@ -6,7 +6,8 @@ use mathlib.Core.List.{List, [], _∷_, _++_, append-assoc, append-nil}
 use lib.ListN.{length, getD, take}
 use lib.Seq.{take-suc, take-all}
 use borrow.Author.Needs.{needs}
-use Rattle.line.specs.Text.{decimal, blanked, written}
+use Rattle.decimal.specs.Decimal.{decimal, blanked}
+use Rattle.line.specs.Text.{written}
 use Rattle.line.proofs.each.Statement.{statement}
 use Rattle.line.proofs.each.Tie as tie
 

@@ -4,7 +4,7 @@ use native.Mathlib.Omega.{arith}
 use mathlib.Core.Path.{_∙_, ap}
 use mathlib.Core.List.{List, _++_}
 use Rattle.line.specs.Text.{written}
-use Rattle.line.proofs.Digits.{is-decimal, at-most-twenty}
+use Rattle.decimal.proofs.Digits.{is-decimal, at-most-twenty}
 use borrow.Author.Needs.{needs}
 use Rattle.line.proofs.number.Statement.{statement}
 use Rattle.line.proofs.number.Tie as tie

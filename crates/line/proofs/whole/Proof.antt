@@ -3,7 +3,8 @@ use Prim.Native.Nat.{ℕ}
 use mathlib.Core.Path.{_≡_, ap}
 use mathlib.Core.List.{List, [], _∷_, _++_, append-assoc}
 use borrow.Author.Needs.{needs}
-use Rattle.line.specs.Text.{decimal, blanked, lineWith, written}
+use Rattle.decimal.specs.Decimal.{decimal, blanked}
+use Rattle.line.specs.Text.{lineWith, written}
 use Rattle.line.proofs.whole.Statement.{statement}
 use Rattle.line.proofs.whole.Tie as tie
 

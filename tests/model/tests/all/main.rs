@@ -12,5 +12,6 @@ mod record;
 mod refusals;
 mod sound;
 mod stream;
+mod text;
 mod thirteen;
 mod typed;

@@ -7,7 +7,7 @@ use lib.Dec.{ltb}
 use borrow.Author.Tests.{ltb-true, ltb-false}
 use Rattle.plain.proofs.Tests.{by-test}
 use Rattle.io.specs.Digits.{digits, Fewest}
-use Rattle.line.specs.Text.{count, decimal}
+use Rattle.decimal.specs.Decimal.{count, decimal}
 
 -- of two fewest numbers of digits none is below the other
 not-below : (n j k : ℕ) → Fewest 10 1 n j → Fewest 10 1 n k → j < k → ⊥
@@ -26,7 +26,7 @@ one-fewest n j k a b =
     (λ g. omega (arith, ltb-false j k f, ltb-false k j g)))
 
 -- one digit holds what is below ten
-small : (n : ℕ) → n < 10 → Fewest 10 1 n 1
+pub small : (n : ℕ) → n < 10 → Fewest 10 1 n 1
 small n h = (omega arith, h, λ z. absurd (omega arith))
 
 -- the last place of a number of two digits or more
@@ -37,7 +37,7 @@ more-than-ten n k h e =
     rw (m, p) (omega arith)
 
 -- and a digit more holds ten times as much
-larger : (n k : ℕ) → 10 ≤ n → Fewest 10 1 (n / 10) k → Fewest 10 1 n (suc k)
+pub larger : (n k : ℕ) → 10 ≤ n → Fewest 10 1 (n / 10) k → Fewest 10 1 n (suc k)
 larger n k h e =
     let p : 10 ^ suc k ≡ 10 ^ k * 10 = pow-suc 10 k in (
       omega arith,
@@ -48,7 +48,7 @@ larger n k h e =
     )
 
 -- counting by division gives the fewest
-count-fewest : (most n : ℕ) → n ≤ most → Fewest 10 1 n (count most n)
+pub count-fewest : (most n : ℕ) → n ≤ most → Fewest 10 1 n (count most n)
 unfolding count
 count-fewest zero n h = small n (omega arith)
 count-fewest (suc most) n h =

@@ -1,0 +1,2 @@
+-- numbers as decimal text
+pub mod Decimal
