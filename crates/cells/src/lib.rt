@@ -68,16 +68,7 @@ pub fn op_ok(op: Op) -> bool
 pub fn op_zero(op: Op) -> bool
     ensures { λ r. ⌜ Decides r (op ≡ noOp) ⌝ }
 {
-    if op.code != 0 {
-        return false;
-    }
-    if op.cell != 0 {
-        return false;
-    }
-    if op.second != 0 {
-        return false;
-    }
-    op.amount == 0
+    (op.code == 0) & (op.cell == 0) & (op.second == 0) & (op.amount == 0)
 }
 
 // One operation on the cells of its class. False: it declines, and leaves them.
@@ -153,17 +144,16 @@ pub fn clear(to: &mut [u32])
     }
 }
 
-// Whether two runs of cells are the same.
+// Whether two runs of cells are the same. All are compared, without a branch.
 pub fn same_cells(a: &[u32], b: &[u32]) -> bool
     requires { ⌜ length (now a) ≡ length (now b) ⌝ }
     ensures { λ r. ⌜ Decides r (now (a .entry) ≡ now (b .entry)) ⌝ }
 {
+    let mut same = true;
     let mut i = 0;
     while i < a.len() {
-        if a[i] != b[i] {
-            return false;
-        }
+        same = same & (a[i] == b[i]);
         i += 1;
     }
-    true
+    same
 }

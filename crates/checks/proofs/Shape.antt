@@ -29,13 +29,18 @@ module _ (P : Slot → Type 0) (say : (v : Slot) (vs : List Val) → Is (Declare
   each-slot (v ∷ l) (u ∷ us) g zero h = say v _ (g .0)
   each-slot (v ∷ l) (u ∷ us) g (suc i) h = each-slot l us (g .1) i (omega arith)
 
+-- a slot has seven operations
+pub each-long : (slots : List Slot) (vs : List Val) → Is (Array (Declared.row L.the-type) slotCount) slots vs
+    → (i : ℕ) → i < slotCount → length (slotAt slots i .ops) ≡ mostOps
+each-long slots vs g i l = each-slot (λ v. length (v .ops) ≡ mostOps) seven slots _ (g .1 .1) i (omega (arith, g .1 .0 .1))
+
 pub shaped : (slots : List Slot) (queue lens : List ℕ) (top : ℕ) {vs us ws : List Val} {X : Type 0}
     → Is (Array (Declared.row L.the-type) slotCount) slots vs
     × (Is (Array (UInt w8) placeCount) queue us × (Is (Array (UInt w8) classCount) lens ws × X))
     → Shaped (arrays slots queue lens top)
 shaped slots queue lens top g = record {
   slots = g .0 .1 .0 .1;
-  ops = λ i l. each-slot (λ v. length (v .ops) ≡ mostOps) seven slots _ (g .0 .1 .1) i (omega arith);
+  ops = each-long slots _ (g .0);
   ids = λ i l. each-slot (λ v. v .id < word) id-fits slots _ (g .0 .1 .1) i (omega arith);
   queue = g .1 .0 .1 .0 .1;
   lens = g .1 .1 .0 .1 .0 .1;

@@ -14,8 +14,6 @@ use Rattle.plain.specs.Site.{Recent}
 use Rattle.plain.proofs.Tests.{by-test, no}
 use Rattle.plain.proofs.Deciding.{holds}
 use Rattle.store.proofs.Agree.{decides-flags}
-use Rattle.slots.specs.declared.Slot.{Slot}
-use Rattle.slots.specs.Meaning.{isUsed}
 use Rattle.store.specs.Meaning.{under}
 use Rattle.store.specs.Sound.{Apart}
 use Rattle.store.specs.Checks.{InUse, Spare, Filled, KeptApart, Among, MatchesAll}
@@ -127,8 +125,8 @@ new kept p n =
     (λ f. let ne = eqb-false (getD kept p 0) 0 f in inr (λ i l e. n (omega arith, (i, l, e))))
 
 -- a slot is used exactly if it has an id
-pub in-use-slot : (v : Slot) → (v .id ≡ 0 → ⊥) → isUsed v ≡ true
-in-use-slot v ne = rw (ne-eqb (v .id) 0 ne)
+pub some-id : (i : ℕ) → (i ≡ 0 → ⊥) → not (eqb i 0) ≡ true
+some-id i ne = rw (ne-eqb i 0 ne)
 
-pub no-id : (v : Slot) → v .id ≡ 0 → isUsed v ≡ true → ⊥
-no-id v z u = no _ u (rw (eq-eqb (v .id) 0 z))
+pub no-id : (i : ℕ) → i ≡ 0 → not (eqb i 0) ≡ true → ⊥
+no-id i z u = no _ u (rw (eq-eqb i 0 z))

@@ -4,9 +4,8 @@ ghost use mathlib.Core.Path.{_≡_};
 ghost use mathlib.Core.Bool.{true};
 ghost use Rattle.plain.specs.Site.{Recent};
 ghost use Rattle.plain.specs.Decides.{Decides};
-ghost use Rattle.store.specs.Checks.{InUse, Filled, KeptApart, Among, MatchesAll, Matching, KeptOk};
+ghost use Rattle.store.specs.Checks.{nth, InUse, Filled, KeptApart, Among, MatchesAll, Matching, KeptOk};
 ghost use Rattle.kept.specs.Marks.{MarkedUpTo, Marks};
-use slots::Slot;
 
 // As many ids are kept.
 pub const KEPT: usize = 256;
@@ -91,23 +90,21 @@ fn mark(kept: &[u32; KEPT]) -> Marked
     ensures { λ r. ⌜ Decides (r .differ) (KeptApart (now (kept .entry))) ⌝ }
     ensures { λ r. ⌜ (r .differ ≡ true → Marks (now (kept .entry)) (r .marks)) ⌝ }
 {
-    let mut marks = [0u8; MARKS];
+    let mut m = Marked {
+        differ: false,
+        marks: [0; MARKS],
+    };
     let mut p = 0;
     while p < KEPT {
         let id = kept[p];
-        if stands(kept, &marks, p, id) {
-            return Marked {
-                differ: false,
-                marks: marks,
-            };
+        if stands(kept, &m.marks, p, id) {
+            return m;
         }
-        marks[(id % MARK_STEP) as usize] = 1;
+        m.marks[(id % MARK_STEP) as usize] = 1;
         p += 1;
     }
-    Marked {
-        differ: true,
-        marks: marks,
-    }
+    m.differ = true;
+    m
 }
 
 // Whether a number is among the last 256.
@@ -142,20 +139,20 @@ fn matches<'a>(
 
 // "A queued request has a kept id exactly if its number is kept, and then the one under it."
 fn all_match<'a>(
-    slots: [Slot; SLOTS],
+    ids: &'a [u32; SLOTS],
+    numbers: &'a [u32; SLOTS],
     kept: &'a [u32; KEPT],
     marks: &'a [u8; MARKS],
     confirmations: u32,
 ) -> bool
     requires { ⌜ Marks (now kept) (now marks) × Filled confirmations (now kept) × KeptApart (now kept) ⌝ }
-    ensures { λ r. ⌜ Decides r (Matching slots confirmations (now (kept .entry))) ⌝ }
+    ensures { λ r. ⌜ Decides r (Matching (nth (now (ids .entry))) (nth (now (numbers .entry))) confirmations (now (kept .entry))) ⌝ }
 {
     let mut i = 0;
     while i < SLOTS {
-        let id = slots[i].id;
+        let id = ids[i];
         if id != 0 {
-            let number = slots[i].number;
-            if !matches(kept, marks, confirmations, number, id) {
+            if !matches(kept, marks, confirmations, numbers[i], id) {
                 return false;
             }
         }
@@ -164,9 +161,14 @@ fn all_match<'a>(
     true
 }
 
-// Whether the kept ids follow their sound rules.
-pub fn kept_ok(slots: [Slot; SLOTS], kept: &[u32; KEPT], confirmations: u32) -> bool
-    ensures { λ r. ⌜ Decides r (KeptOk slots confirmations (now (kept .entry))) ⌝ }
+// Whether the kept ids follow their sound rules, with the slots' ids and numbers.
+pub fn kept_ok<'a>(
+    ids: &'a [u32; SLOTS],
+    numbers: &'a [u32; SLOTS],
+    kept: &'a [u32; KEPT],
+    confirmations: u32,
+) -> bool
+    ensures { λ r. ⌜ Decides r (KeptOk (nth (now (ids .entry))) (nth (now (numbers .entry))) confirmations (now (kept .entry))) ⌝ }
 {
     if !filled(kept, confirmations) {
         return false;
@@ -175,6 +177,5 @@ pub fn kept_ok(slots: [Slot; SLOTS], kept: &[u32; KEPT], confirmations: u32) -> 
     if !marked.differ {
         return false;
     }
-    let marks = marked.marks;
-    all_match(slots, kept, &marks, confirmations)
+    all_match(ids, numbers, kept, &marked.marks, confirmations)
 }

@@ -1,10 +1,11 @@
 -- Tests that decide: how a test that is true exactly where a rule holds is made of smaller ones. Assumes nothing.
-use Prim.Native.Nat.{ℕ, zero, suc, _<_, _≤_}
+use Prim.Native.Nat.{ℕ, zero, suc, _+_, _<_, _≤_}
 use native.Mathlib.Omega.{arith}
 use mathlib.Core.Path.{_≡_, refl}
 use mathlib.Core.Bool.{Bool, true, false, cond, not, _&&_}
 use mathlib.Core.List.{List, [], _∷_}
 use lib.Dec.{ltb, leb, eqb}
+use borrow.Author.Count.{below-more}
 use borrow.Author.Tests.{lt-ltb, le-leb, eqb-true, eqb-false, eq-eqb, leb-true, ltb-true, not-true, not-false}
 use Rattle.plain.specs.Sound.{All}
 use Rattle.plain.specs.Decides.{Decides}
@@ -95,6 +96,12 @@ decides-below p P t (suc n) =
     (λ f. let ne : i ≡ n → ⊥ = eqb-false i n f in h .0 i (omega arith)))
     (λ h. ((λ i l. h i (omega arith)), h n (omega arith)))
     (decides-both (decides-below p P t n) (t n))
+
+-- of the numbers below i, and of i
+pub decides-more : {a b : Bool} (P : ℕ → Type 0) (i : ℕ) → Decides a ((k : ℕ) → k < i → P k) → Decides b (P i)
+    → Decides (a && b) ((k : ℕ) → k < i + 1 → P k)
+decides-more P i d e =
+    decides-as (λ h. below-more P i (h .0) (h .1)) (λ h. ((λ k l. h k (omega arith)), h i (omega arith))) (decides-both d e)
 
 -- a test decides
 pub decision : {b : Bool} {P : Type 0} → Decides b P → Dec P

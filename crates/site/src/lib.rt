@@ -15,12 +15,12 @@ use cells::RUN;
 use cells::clear;
 use checks::cells_ok;
 use checks::each_once;
+use checks::gather;
 use checks::in_order;
 use checks::lens_short;
 use checks::map_agrees;
 use checks::numbered;
 use checks::pairs_differ;
-use checks::slots_ok;
 use checks::tails_zero;
 use kept::KEPT;
 use kept::kept_ok;
@@ -133,40 +133,54 @@ impl Site {
         ensures { λ r. ⌜ Decides r (Sound (store self) (now (committed .entry)) (now (working .entry))) ⌝ }
     {
         let slots = self.slots;
-        let queue = self.queue;
-        let lens = self.lens;
-        if !slots_ok(slots) {
+        let f = gather(slots);
+        if !f.ok {
             return false;
         }
-        if !lens_short(&lens) {
+        if !lens_short(&self.lens) {
             return false;
         }
-        if !tails_zero(&queue, &lens) {
+        if !tails_zero(&self.queue, &self.lens) {
             return false;
         }
-        if !map_agrees(slots, self.low, self.high) {
+        if !map_agrees(&f.ids, self.low, self.high) {
             return false;
         }
-        if !each_once(slots, queue, lens, self.low, self.high) {
+        if !each_once(
+            &f.ids,
+            &f.classes,
+            &self.queue,
+            &self.lens,
+            self.low,
+            self.high,
+        ) {
             return false;
         }
-        if !pairs_differ(slots) {
+        if !pairs_differ(&f.ids, &f.numbers) {
             return false;
         }
-        if !in_order(slots, queue, lens, self.confirmations) {
+        if !in_order(
+            &f.numbers,
+            &f.dones,
+            &f.marks,
+            &self.queue,
+            &self.lens,
+            self.confirmations,
+        ) {
             return false;
         }
         if self.confirmations < self.commits {
             return false;
         }
-        if self.confirmations - self.commits != numbered(slots) {
+        if self.confirmations - self.commits != numbered(&f.numbers) {
             return false;
         }
+        let queue = self.queue;
+        let lens = self.lens;
         if !cells_ok(slots, queue, lens, committed, working) {
             return false;
         }
-        let kept = self.kept;
-        kept_ok(slots, &kept, self.confirmations)
+        kept_ok(&f.ids, &f.numbers, &self.kept, self.confirmations)
     }
 
     // The refusal that every call begins with: 1 for wrong cells, 2 for an unsound site, 0 for neither.

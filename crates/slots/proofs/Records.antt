@@ -1,7 +1,7 @@
 -- The rules of one slot, by places and as a valid record: what holds of all of a list holds at each place, and back. Assumes nothing.
 use Prim.Native.Nat.{ℕ, zero, suc, _+_, _-_, _<_, _≤_}
 use native.Mathlib.Omega.{arith}
-use mathlib.Core.Path.{_≡_, sym, ap, _∙_, subst}
+use mathlib.Core.Path.{_≡_, refl, sym, ap, _∙_, subst}
 use mathlib.Core.Bool.{true}
 use mathlib.Core.List.{List, [], _∷_, map}
 use lib.ListN.{length, getD, take, drop, replicate, length-map, length-drop, length-replicate, getD-replicate}
@@ -16,7 +16,7 @@ use Rattle.cells.specs.declared.Op.{Op}
 use Rattle.cells.specs.Ops.{noOp, opOf, Coded}
 use Rattle.slots.specs.declared.Slot.{Slot}
 use Rattle.slots.specs.Meaning.{freeSlot, opAt, requestOf}
-use Rattle.slots.specs.Rules.{Holds, OpsOk}
+use Rattle.slots.specs.Rules.{Holds, OpsOk, OpsZero}
 
 -- ALL OF A LIST, BY PLACE
 module _ {A : Type 0} (Q : A → Type 0) (d : A) where
@@ -48,9 +48,11 @@ pub record Held (v : Slot) : Type 0 where
   pub count : 0 < v .count
 
 -- a free slot's operations
+pub free-zero : (v : Slot) → v ≡ freeSlot → OpsZero v
+free-zero v e = subst OpsZero (sym e) (λ k l. getD-replicate mostOps k noOp noOp l)
+
 pub free-ops : (v : Slot) → v ≡ freeSlot → OpsOk v
-free-ops v e =
-    subst OpsOk (sym e) (λ k l. record { within = λ s. absurd (omega arith); past = λ s. getD-replicate mostOps k noOp noOp l })
+free-ops v e = subst OpsOk (sym e) (λ k l. record { within = λ s. absurd (omega arith); past = λ s. free-zero freeSlot refl k l })
 
 module _ (v : Slot) (seven : length (v .ops) ≡ mostOps) where
   pub zeros-from : (n : ℕ) → n ≤ mostOps → ((k : ℕ) → k < mostOps → n ≤ k → opAt v k ≡ noOp)
@@ -62,9 +64,9 @@ module _ (v : Slot) (seven : length (v .ops) ≡ mostOps) where
       getD-drop n (v .ops) k noOp ∙ h (n + k) (omega arith) (omega arith) ∙ sym (getD-replicate (mostOps - n) k noOp noOp s))
 
   -- a slot of which all is zero
-  pub all-zero : OpsOk v → v .id ≡ 0 → v .class ≡ 0 → v .count ≡ 0 → v .number ≡ 0 → v .done ≡ 0 → v .mark ≡ 0 → v ≡ freeSlot
+  pub all-zero : OpsZero v → v .id ≡ 0 → v .class ≡ 0 → v .count ≡ 0 → v .number ≡ 0 → v .done ≡ 0 → v .mark ≡ 0 → v ≡ freeSlot
   all-zero h a b c d e f =
-      let z : v .ops ≡ replicate mostOps noOp = zeros-from 0 (omega arith) (λ k l m. h k l .past (omega arith)) in
+      let z : v .ops ≡ replicate mostOps noOp = zeros-from 0 (omega arith) (λ k l m. h k l) in
       λ i. record { id = a i; class = b i; count = c i; ops = z i; number = d i; done = e i; mark = f i }
 
   taken : v .count ≤ mostOps → length (take (v .count) (v .ops)) ≡ v .count

@@ -49,7 +49,7 @@ pub record RanOn (v : Slot) (base : List ℕ) (mark : ℕ) (after : List ℕ) : 
 abbrev pub HeadOk : Bool → Slot → List ℕ → List ℕ → Type 0
 HeadOk b v base w = (i : ℕ) → Decides b (Head (entryOf i v) base w)
 
--- slot b may stand directly behind slot a
-pub record Follows (a b : Slot) : Type 0 where
-  pub order : (b .number ≡ 0) ⊎ ((0 < a .number) × (a .number < b .number))
-  pub untouched : (b .done ≡ 0) × (b .mark ≡ 0)
+-- a request with this number, done operations and mark may stand directly behind one with the number `before`
+pub record Follows (before number done mark : ℕ) : Type 0 where
+  pub order : (number ≡ 0) ⊎ ((0 < before) × (before < number))
+  pub untouched : (done ≡ 0) × (mark ≡ 0)

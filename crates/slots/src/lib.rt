@@ -1,9 +1,8 @@
 // The slot: one booking request with how far it has come, and its rules.
 ghost use mathlib.Core.Path.{_≡_};
-ghost use mathlib.Core.Logic.{_⊎_};
 ghost use Rattle.plain.specs.Decides.{Decides};
 ghost use Rattle.slots.specs.Meaning.{freeSlot};
-ghost use Rattle.slots.specs.Rules.{OpsOk, Holds};
+ghost use Rattle.slots.specs.Rules.{OpsOk, OpsZero, Holds};
 ghost use Rattle.slots.specs.Steps.{Follows};
 use cells::CLASSES;
 use cells::Op;
@@ -72,7 +71,7 @@ fn ops_ok(v: Slot) -> bool
 }
 
 // Whether a slot holds a valid record.
-fn holds(v: Slot) -> bool
+pub fn holds(v: Slot) -> bool
     ensures { λ r. ⌜ Decides r (Holds v) ⌝ }
 {
     if v.id == 0 {
@@ -92,55 +91,43 @@ fn holds(v: Slot) -> bool
     ops_ok(v)
 }
 
+// Whether each operation of a slot is zero: all are looked at, without a branch.
+fn ops_zero(v: Slot) -> bool
+    ensures { λ r. ⌜ Decides r (OpsZero v) ⌝ }
+{
+    let mut zero = true;
+    let mut k = 0;
+    while k < MOST_OPS {
+        let op = v.ops[k];
+        zero = zero & op_zero(op);
+        k += 1;
+    }
+    zero
+}
+
 // Whether a slot is the free one.
-fn is_zero(v: Slot) -> bool
+pub fn is_zero(v: Slot) -> bool
     ensures { λ r. ⌜ Decides r (v ≡ freeSlot) ⌝ }
 {
-    if v.id != 0 {
-        return false;
-    }
-    if v.class != 0 {
-        return false;
-    }
-    if v.count != 0 {
-        return false;
-    }
-    if v.number != 0 {
-        return false;
-    }
-    if v.done != 0 {
-        return false;
-    }
-    if v.mark != 0 {
-        return false;
-    }
-    ops_ok(v)
+    let none = (v.id == 0) & (v.class == 0) & (v.count == 0);
+    let untouched = (v.number == 0) & (v.done == 0) & (v.mark == 0);
+    none & untouched & ops_zero(v)
 }
 
-// Whether a slot is free and all zero, or holds a valid record.
-pub fn slot_ok(v: Slot) -> bool
-    ensures { λ r. ⌜ Decides r ((v ≡ freeSlot) ⊎ Holds v) ⌝ }
+// Whether a request with this number, done operations and mark may stand directly behind one with the number `before`.
+pub fn follows(before: u32, number: u32, done: u8, mark: u8) -> bool
+    ensures { λ r. ⌜ Decides r (Follows before number done mark) ⌝ }
 {
-    if is_zero(v) {
-        return true;
-    }
-    holds(v)
-}
-
-// Whether slot b may stand directly behind slot a.
-pub fn follows(a: Slot, b: Slot) -> bool
-    ensures { λ r. ⌜ Decides r (Follows a b) ⌝ }
-{
-    if b.number != 0 {
-        if a.number == 0 {
+    if number != 0 {
+        if before == 0 {
             return false;
         }
-        if b.number <= a.number {
+        if number <= before {
             return false;
         }
     }
-    if b.done != 0 {
+    if done != 0 {
         return false;
     }
-    b.mark == 0
+    mark == 0
 }

@@ -24,7 +24,7 @@ use Rattle.store.proofs.Walk.{each-at, place-at}
 use Rattle.store.specs.Checks.{Mine}
 use Rattle.store.proofs.Canonical.{places-length}
 use Rattle.store.proofs.Commit.{head-small}
-use Rattle.store.proofs.Flat.{flat, place-mine}
+use Rattle.store.proofs.Flat.{place-mine}
 use Rattle.store.proofs.Meant.{to-plain, used-holds}
 use Rattle.store.proofs.Offered.{accepted-call, not-done, same-refl}
 use Rattle.store.proofs.Whole.{places-in}
@@ -135,10 +135,7 @@ module _ (x : State) (w : Shaped (x .site)) (r : RightCells x) (q : SoundState x
         let has : 0 < lenOf s c = omega arith in
         rw a (omega (arith, head-sound x w r q c l has .within, ops-count (slotAt (s .slots) (getD (s .queue) (128 * c) 0)) (w .ops _ (head-small s w (q .laid) c l has)) (head-held x w r q c l has))))
         (λ f. let ne = eqb-false p 0 f in
-        let k : p < 128 = omega (arith, q .laid .not-longer-than-128 c l) in
-        let fl = flat c p k in
-        let po = places-in s w (x .committed) (x .working) q (128 * c + p) (omega arith) (rw (fl .0, fl .1) m) in
-        omega (arith, po .follows (omega (arith, fl .1)) .untouched .0));
+        omega (arith, places-in s w (x .committed) (x .working) q c l p m .follows (omega arith) .untouched .0));
   }
 
   module _ (n : ℕ) where

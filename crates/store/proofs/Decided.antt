@@ -1,9 +1,9 @@
 -- Soundness is decided, for any site of the declared shape: for the theorem that any two outcomes are equal. Assumes nothing.
-use Prim.Native.Nat.{ℕ, zero, suc, _+_, _-_, _/_, _%_, _<_, _≤_, _^_}
+use Prim.Native.Nat.{ℕ, zero, suc, _+_, _*_, _-_, _<_, _≤_, _^_}
 use native.Mathlib.Omega.{arith}
 use mathlib.Core.Path.{_≡_, refl, sym, ap, _∙_}
 use mathlib.Core.Logic.{_⊎_, inl, inr, _↔_}
-use mathlib.Core.Bool.{Bool, true, false}
+use mathlib.Core.Bool.{Bool, true, false, not}
 use mathlib.Core.List.{List, [], _∷_, map}
 use lib.Dec.{eqb, ltb, leb}
 use lib.ListN.{length, getD, List·getD-eq-default}
@@ -15,14 +15,14 @@ use Rattle.plain.specs.Ops.{markOf, leaves}
 use Rattle.plain.specs.Queue.{Entry, opsOf}
 use Rattle.plain.specs.Site.{Recent}
 use Rattle.plain.specs.Sound.{soFar}
-use Rattle.slots.proofs.Records.{all-zero, free-ops, held, holds}
+use Rattle.slots.proofs.Records.{all-zero, free-zero, held, holds}
 use Rattle.slots.specs.Meaning.{freeSlot, isUsed, noSlot, opAt, slotAt}
-use Rattle.slots.specs.Rules.{Holds, OpAt, OpsOk}
+use Rattle.slots.specs.Rules.{Holds, OpAt, OpsOk, OpsZero}
 use Rattle.slots.specs.Steps.{Follows}
 use Rattle.slots.specs.declared.Slot.{Slot}
 use Rattle.store.proofs.Flat.{in-range, not-there}
 use Rattle.store.proofs.Whole.{differ-in, kept-in, laid-of, places-in, sound-of, tails-in, tally-in}
-use Rattle.store.specs.Checks.{Filled, InRange, KeptOk, Matching, MatchesAll, PlaceOk, numbered, slotIn}
+use Rattle.store.specs.Checks.{Filled, InRange, KeptOk, Matching, MatchesAll, Named, PlaceOk, ZeroFrom, donesOf, idsOf, marksOf, nth, numbered, numbersOf}
 use Rattle.store.specs.Meaning.{cellsOf, lenOf, places, queueOf, under}
 use Rattle.store.specs.Sound.{Apart, Cells, Once, Short, Sound, stands, times}
 use Rattle.store.specs.Store.{Shaped, Store}
@@ -108,23 +108,25 @@ ops v = below (OpAt v) 7 (λ k l.
     same (λ h. record { within = h .0; past = h .1 }) (λ h. (h .within, h .past))
     (and-then (when (lt k (v .count)) (λ _. op (opAt v k))) (λ _. when (le (v .count) k) (λ _. zero-op (opAt v k)))))
 
+zero-ops : (v : Slot) → Decided (OpsZero v)
+zero-ops v = below (λ k. opAt v k ≡ noOp) 7 (λ k _. zero-op (opAt v k))
+
 slot : (v : Slot) → length (v .ops) ≡ 7 → v .id < 2 ^ 32 → Decided ((v ≡ freeSlot) ⊎ Holds v)
 slot v n i =
     or-else
     (same
     (λ h. all-zero v n (h .0) (h .1 .0) (h .1 .1 .0) (h .1 .1 .1 .0) (h .1 .1 .1 .1 .0) (h .1 .1 .1 .1 .1 .0) (h .1 .1 .1 .1 .1 .1))
-    (λ e. (free-ops v e, (ap (λ (v : Slot). v .id) e, (ap (λ (v : Slot). v .class) e, (ap (λ (v : Slot). v .count) e, (ap (λ (v : Slot). v .number) e, (ap (λ (v : Slot). v .done) e, ap (λ (v : Slot). v .mark) e)))))))
-    (and-then (ops v) (λ _. and-then (eq (v .id) 0) (λ _. and-then (eq (v .class) 0) (λ _. and-then (eq (v .count) 0) (λ _. and-then (eq (v .number) 0) (λ _. and-then (eq (v .done) 0) (λ _. eq (v .mark) 0))))))))
+    (λ e. (free-zero v e, (ap (λ (v : Slot). v .id) e, (ap (λ (v : Slot). v .class) e, (ap (λ (v : Slot). v .count) e, (ap (λ (v : Slot). v .number) e, (ap (λ (v : Slot). v .done) e, ap (λ (v : Slot). v .mark) e)))))))
+    (and-then (zero-ops v) (λ _. and-then (eq (v .id) 0) (λ _. and-then (eq (v .class) 0) (λ _. and-then (eq (v .count) 0) (λ _. and-then (eq (v .number) 0) (λ _. and-then (eq (v .done) 0) (λ _. eq (v .mark) 0))))))))
     (same
     (λ h. holds v n (h .0) (h .1 .0) i (h .1 .1 .0) (h .1 .1 .1 .0) (h .1 .1 .1 .1))
     (λ h. let g = held v n h in (g .ops, (g .id, (g .class, (g .count, h .count)))))
     (and-then (ops v) (λ _. and-then (lt 0 (v .id)) (λ _. and-then (lt (v .class) 16) (λ _. and-then (lt 0 (v .count)) (λ _. le (v .count) 7))))))
 
-follows : (a b : Slot) → Decided (Follows a b)
-follows a b =
+follows : (before number done mark : ℕ) → Decided (Follows before number done mark)
+follows before number done mark =
     same (λ h. record { order = h .0; untouched = h .1 }) (λ h. (h .order, h .untouched))
-    (and-then (or-else (eq (b .number) 0) (and-then (lt 0 (a .number)) (λ _. lt (a .number) (b .number))))
-    (λ _. and-then (eq (b .done) 0) (λ _. eq (b .mark) 0)))
+    (and-then (or-else (eq number 0) (and-then (lt 0 before) (λ _. lt before number))) (λ _. and-then (eq done 0) (λ _. eq mark 0)))
 
 -- numbers in n places
 apart : (n : ℕ) (f : ℕ → ℕ) → Decided (Apart n f)
@@ -145,19 +147,19 @@ filled top kept =
     (and-then (recent top (λ n. 0 < under kept n) (λ n. lt 0 (under kept n)))
     (λ _. below (λ n. top < n → under kept n ≡ 0) 257 (λ n _. when (lt top n) (λ _. eq (under kept n) 0))))
 
-matching : (l : List Slot) (top : ℕ) (kept : List ℕ) → Decided (Matching l top kept)
-matching l top kept =
-    below (λ i. isUsed (slotAt l i) ≡ true → MatchesAll top kept (slotAt l i .number) (slotAt l i .id)) 128
-    (λ i _. when (eq-flag (isUsed (slotAt l i)) true) (λ _. one (slotAt l i .number) (slotAt l i .id)))
+matching : (ids numbers : ℕ → ℕ) (top : ℕ) (kept : List ℕ) → Decided (Matching ids numbers top kept)
+matching ids numbers top kept =
+    below (λ i. not (eqb (ids i) 0) ≡ true → MatchesAll top kept (numbers i) (ids i)) 128
+    (λ i _. when (eq-flag (not (eqb (ids i) 0)) true) (λ _. one (numbers i) (ids i)))
   where
     one : (number id : ℕ) → Decided (MatchesAll top kept number id)
     one number id = recent top (λ n. (number ≡ n) ↔ (id ≡ under kept n))
         (λ n. and-then (when (eq number n) (λ _. eq id (under kept n))) (λ _. when (eq id (under kept n)) (λ _. eq number n)))
 
-kept-ids : (l : List Slot) (top : ℕ) (kept : List ℕ) → Decided (KeptOk l top kept)
-kept-ids l top kept =
+kept-ids : (ids numbers : ℕ → ℕ) (top : ℕ) (kept : List ℕ) → Decided (KeptOk ids numbers top kept)
+kept-ids ids numbers top kept =
     same (λ h. record { filled = h .0; apart = h .1 .0; matching = h .1 .1 }) (λ h. (h .filled, (h .apart, h .matching)))
-    (and-then (filled top kept) (λ _. and-then (apart 256 (λ p. getD kept p 0)) (λ _. matching l top kept)))
+    (and-then (filled top kept) (λ _. and-then (apart 256 (λ p. getD kept p 0)) (λ _. matching ids numbers top kept)))
 
 -- a class's cells
 cells : (q : List Entry) (base w : List ℕ) → Decided (Cells q base w)
@@ -171,7 +173,7 @@ cells (e ∷ q) base w =
 
 module _ (s : Store) (w : Shaped s) where
   -- a slot past the end stands nowhere: where all places name slots, 128 of them are enough to look at
-  once : Short (s .lens) → InRange s → Decided (Once s)
+  once : Short (s .lens) → InRange (s .queue) (s .lens) → Decided (Once s)
   once short range =
       same
       (λ h c i l. by-test (ltb i 128) (λ t. h c l i (ltb-true i 128 t)) (λ f. nowhere c i l (ltb-false i 128 f)))
@@ -183,6 +185,14 @@ module _ (s : Store) (w : Shaped s) where
       nowhere c i l k =
           not-there s w short c l range i k ∙ sym (ap (stands c) (List·getD-eq-default (s .slots) noSlot (omega (arith, w .slots))))
 
+  abbrev At : (c p : ℕ) → Type 0
+  At c p = PlaceOk (numbersOf (s .slots)) (donesOf (s .slots)) (marksOf (s .slots)) (s .queue) (s .confirmations) (128 * c) p
+
+  place : (c p : ℕ) → Decided (At c p)
+  place c p =
+      same (λ h. record { given = h .0; follows = h .1 }) (λ h. (h .given, h .follows))
+      (and-then (le (numbersOf (s .slots) (nth (s .queue) (128 * c + p))) (s .confirmations)) (λ _. when (lt 0 p) (λ _. follows _ _ _ _)))
+
   pub sound-decided : (base wrk : List ℕ) → Decided (Sound s base wrk)
   sound-decided base wrk =
       same
@@ -192,15 +202,13 @@ module _ (s : Store) (w : Shaped s) where
       (h .laid .free-or-valid, (h .laid .not-longer-than-128, (tails-in s w base wrk h, (h .laid .map-agrees, (in-range s w (h .laid .not-longer-than-128) (h .laid .exactly-once), (h .laid .exactly-once, (differ-in s w base wrk h, (places-in s w base wrk h, (omega arith, (omega arith, (h .working-cells-follow, kept-in s w base wrk h))))))))))))
       (and-then (below (λ i. (slotAt (s .slots) i ≡ freeSlot) ⊎ Holds (slotAt (s .slots) i)) 128 (λ i l. slot (slotAt (s .slots) i) (w .ops i l) (w .ids i l)))
       (λ _. and-then (below (λ c. getD (s .lens) c 0 ≤ 128) 16 (λ c l. le (getD (s .lens) c 0) 128))
-      (λ short. and-then (below (λ at. getD (s .lens) (at / 128) 0 ≤ at % 128 → getD (s .queue) at 0 ≡ 0) 2048 (λ at l. when (le (getD (s .lens) (at / 128) 0) (at % 128)) (λ _. eq (getD (s .queue) at 0) 0)))
+      (λ short. and-then (below (λ c. ZeroFrom (s .queue) (128 * c + lenOf s c) (128 * c + 128)) 16 (λ c _. below (λ k. 128 * c + lenOf s c ≤ k → nth (s .queue) k ≡ 0) (128 * c + 128) (λ k _. when (le (128 * c + lenOf s c) k) (λ _. eq (nth (s .queue) k) 0))))
       (λ _. and-then (eq-list eq-flag (usedOf (s .low) (s .high)) (map isUsed (s .slots)))
-      (λ _. and-then (below (λ at. at % 128 < lenOf s (at / 128) → getD (s .queue) at 0 < 128) 2048 (λ at l. when (lt (at % 128) (lenOf s (at / 128))) (λ _. lt (getD (s .queue) at 0) 128)))
+      (λ _. and-then (below (λ c. Named (s .queue) (128 * c) (lenOf s c)) 16 (λ c _. below (λ p. nth (s .queue) (128 * c + p) < 128) (lenOf s c) (λ p _. lt (nth (s .queue) (128 * c + p)) 128)))
       (λ range. and-then (once short range)
       (λ _. and-then (same (λ h. record { ids = h .0; numbers = h .1 }) (λ h. (h .ids, h .numbers)) (and-then (apart 128 (λ i. slotAt (s .slots) i .id)) (λ _. apart 128 (λ i. slotAt (s .slots) i .number))))
-      (λ _. and-then (below (λ at. at % 128 < lenOf s (at / 128) → PlaceOk (s .slots) (s .queue) (s .confirmations) at) 2048 (λ at l. when (lt (at % 128) (lenOf s (at / 128))) (λ _.
-      same (λ h. record { given = h .0; follows = h .1 }) (λ h. (h .given, h .follows))
-      (and-then (le (slotIn (s .slots) (s .queue) at .number) (s .confirmations)) (λ _. when (lt 0 (at % 128)) (λ _. follows (slotIn (s .slots) (s .queue) (at - 1)) (slotIn (s .slots) (s .queue) at)))))))
+      (λ _. and-then (below (λ c. (p : ℕ) → p < lenOf s c → At c p) 16 (λ c _. below (At c) (lenOf s c) (λ p _. place c p)))
       (λ _. and-then (le (s .commits) (s .confirmations))
-      (λ _. and-then (eq (s .confirmations - s .commits) (numbered (s .slots) 128))
+      (λ _. and-then (eq (s .confirmations - s .commits) (numbered (numbersOf (s .slots)) 128))
       (λ _. and-then (below (λ c. Cells (queueOf s c) (cellsOf base c) (cellsOf wrk c)) 16 (λ c l. cells (queueOf s c) (cellsOf base c) (cellsOf wrk c)))
-      (λ _. kept-ids (s .slots) (s .confirmations) (s .kept)))))))))))))
+      (λ _. kept-ids (idsOf (s .slots)) (numbersOf (s .slots)) (s .confirmations) (s .kept)))))))))))))

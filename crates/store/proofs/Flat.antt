@@ -1,5 +1,5 @@
 -- The queues by flat places: place p of class c stands at 128 c + p. Assumes nothing.
-use Prim.Native.Nat.{ℕ, zero, suc, _+_, _*_, _-_, _/_, _%_, _<_, _≤_}
+use Prim.Native.Nat.{ℕ, zero, suc, _+_, _*_, _-_, _<_, _≤_}
 use native.Mathlib.Omega.{arith}
 use mathlib.Core.Path.{_≡_, refl, sym, ap, _∙_, subst}
 use mathlib.Core.Logic.{_⊎_, inl, inr}
@@ -17,35 +17,30 @@ use Rattle.plain.specs.Sound.{All, InOrder, Untouched, Waiting}
 use Rattle.store.proofs.Lists.{all-place, times-none}
 use Rattle.slots.specs.Meaning.{entryOf, freeSlot, isUsed, noSlot, slotAt}
 use Rattle.slots.specs.Rules.{Holds}
-use Rattle.slots.specs.Steps.{Follows}
 use Rattle.slots.specs.declared.Slot.{Slot}
 use Rattle.store.proofs.Once.{mine-of}
 use Rattle.store.proofs.Walk.{long, place-at}
-use Rattle.store.specs.Checks.{InRange, Mine, PlacesOk, Tails, slotIn}
+use Rattle.store.specs.Checks.{Behind, InRange, Mine, PlacesIn, Tails, donesOf, marksOf, numbersOf}
 use Rattle.store.specs.Meaning.{entries, lenOf, places, queueOf}
 use Rattle.store.specs.Sound.{Once, Rest, Short, SlotsOk, stands, times}
 use Rattle.store.specs.Store.{Shaped, Store}
-
--- the place before a flat place, in its class
-pub prev : (at : ℕ) → 0 < at % 128 → ((at - 1) / 128 ≡ at / 128) × ((at - 1) % 128 ≡ at % 128 - 1)
-prev at h = (omega arith, omega arith)
-
-pub flat : (c p : ℕ) → p < 128 → ((128 * c + p) / 128 ≡ c) × ((128 * c + p) % 128 ≡ p)
-flat c p h = (omega arith, omega arith)
 
 -- of the places of a queue: numbers of at most top, and each may stand behind the one before it
 abbrev pub Bounded : List Slot → ℕ → List ℕ → Type 0
 Bounded l top ps = (p : ℕ) → p < length ps → slotAt l (getD ps p 0) .number ≤ top
 
+abbrev BehindIn : List Slot → ℕ → ℕ → Type 0
+BehindIn l = Behind (numbersOf l) (donesOf l) (marksOf l)
+
 abbrev pub Linked : List Slot → List ℕ → Type 0
-Linked l ps = (p : ℕ) → suc p < length ps → Follows (slotAt l (getD ps p 0)) (slotAt l (getD ps (suc p) 0))
+Linked l ps = (p : ℕ) → suc p < length ps → BehindIn l (getD ps p 0) (getD ps (suc p) 0)
 
 module _ (l : List Slot) (top : ℕ) where
   after-waiting : (x : ℕ) (ps : List ℕ) → slotAt l x .number ≡ 0 → Linked l (x ∷ ps) → All Waiting (entries l ps)
   after-waiting x [] z h = tt
   after-waiting x (y ∷ ps) z h = let n = behind (h 0 (omega arith)) in (n, after-waiting y ps n (λ p m. h (suc p) (omega arith)))
     where
-      behind : Follows (slotAt l x) (slotAt l y) → slotAt l y .number ≡ 0
+      behind : BehindIn l x y → slotAt l y .number ≡ 0
       behind f = elim (f .order) [ inl e ↦ e | inr e ↦ absurd (omega arith) ]
 
   order-from : (m x : ℕ) (ps : List ℕ) → (slotAt l x .number ≡ 0) ⊎ (m < slotAt l x .number) → Bounded l top (x ∷ ps) → Linked l (x ∷ ps) → InOrder m top (entries l (x ∷ ps))
@@ -115,8 +110,7 @@ module _ (s : Store) (w : Shaped s) (short : Short (s .lens)) where
         (omega (arith, length-drop (lenOf s c) (part (s .queue) c), part-long, length-replicate {A = ℕ} (128 - lenOf s c) 0))
         (λ k m.
         let g : lenOf s c + k < 128 = omega (arith, length-drop (lenOf s c) (part (s .queue) c), part-long) in
-        let e = flat c (lenOf s c + k) g in
-        past-at k g ∙ h (128 * c + (lenOf s c + k)) (omega arith) (rw (e .0, e .1) (omega arith)) ∙ sym (getD-replicate (128 - lenOf s c) k 0 0 (omega arith)))
+        past-at k g ∙ h c l (128 * c + (lenOf s c + k)) (omega arith) (omega arith) ∙ sym (getD-replicate (128 - lenOf s c) k 0 0 (omega arith)))
 
     in-places : (p : ℕ) → p < lenOf s c → getD (places s c) p 0 ≡ getD (s .queue) (128 * c + p) 0
     in-places = place-at s w c l (short c l)
@@ -125,20 +119,16 @@ module _ (s : Store) (w : Shaped s) (short : Short (s .lens)) where
     count = long s w c l (short c l)
 
     -- the rules of a queue, by flat places
-    pub ordered : PlacesOk s → InOrder 0 (s .confirmations) (queueOf s c) × Rest (queueOf s c)
+    pub ordered : PlacesIn s → InOrder 0 (s .confirmations) (queueOf s c) × Rest (queueOf s c)
     ordered h =
         rules-from (s .slots) (s .confirmations) (places s c)
         (λ p k.
         let g : p < lenOf s c = omega (arith, count) in
-        let b = short c l in
-        let e = flat c p (omega arith) in
-        rw (in-places p g) (h (128 * c + p) (omega arith) (rw (e .0, e .1) g) .given))
+        rw (in-places p g) (h c l p g .given))
         (λ p k.
         let g : suc p < lenOf s c = omega (arith, count) in
-        let b = short c l in
-        let e = flat c (suc p) (omega arith) in
         let m : 128 * c + suc p - 1 ≡ 128 * c + p = omega arith in
-        rw (in-places p (omega arith), in-places (suc p) g, ← m) (h (128 * c + suc p) (omega arith) (rw (e .0, e .1) g) .follows (rw (e .1) (omega arith))))
+        rw (in-places p (omega arith), in-places (suc p) g, ← m) (h c l (suc p) g .follows (omega arith)))
 
     -- what stands at a flat place that counts
     pub place-mine : Once s → (p : ℕ) → p < lenOf s c → Mine s c (getD (s .queue) (128 * c + p) 0)
@@ -156,12 +146,10 @@ module _ (s : Store) (w : Shaped s) (short : Short (s .lens)) where
         (List·getD-map (λ i. entryOf i (slotAt (s .slots) i)) (places s c) 0 0 ∙ ap (λ (i : ℕ). entryOf i (slotAt (s .slots) i)) (in-places 0 k ∙ ap (λ (n : ℕ). getD (s .queue) n 0) z))
 
   -- where all places name slots, no number past them stands in a queue
-  pub not-there : (c : ℕ) → c < 16 → InRange s → (i : ℕ) → 128 ≤ i → times i (places s c) ≡ 0
+  pub not-there : (c : ℕ) → c < 16 → InRange (s .queue) (s .lens) → (i : ℕ) → 128 ≤ i → times i (places s c) ≡ 0
   not-there c l range i k = go (places s c) (λ p m.
       let g : p < lenOf s c = omega (arith, count c l) in
-      let b = short c l in
-      let e = flat c p (omega arith) in
-      rw (in-places c l p g) (range (128 * c + p) (omega arith) (rw (e .0, e .1) g)))
+      rw (in-places c l p g) (range c l p g))
     where
       go : (ps : List ℕ) → ((p : ℕ) → p < length ps → getD ps p 0 < 128) → times i ps ≡ 0
       go [] h = refl
@@ -171,14 +159,9 @@ module _ (s : Store) (w : Shaped s) (short : Short (s .lens)) where
   used-small i u = by-test (ltb i 128) (ltb-true i 128)
       (λ f. no _ u (ap isUsed (List·getD-eq-default (s .slots) noSlot (omega (arith, w .slots, ltb-false i 128 f)))))
 
-  pub in-range : Once s → InRange s
-  in-range once at l k =
-      let e : 128 * (at / 128) + at % 128 ≡ at = omega arith in
-      rw e at (used-small (getD (s .queue) (128 * (at / 128) + at % 128) 0) (place-mine (at / 128) (omega arith) once (at % 128) k .used))
-
   -- a place that counts names a slot
-  pub place-small : Once s → (c p : ℕ) → c < 16 → p < lenOf s c → getD (s .queue) (128 * c + p) 0 < 128
-  place-small once c p l k = used-small (getD (s .queue) (128 * c + p) 0) (place-mine c l once p k .used)
+  pub in-range : Once s → InRange (s .queue) (s .lens)
+  in-range once c l p k = used-small (getD (s .queue) (128 * c + p) 0) (place-mine c l once p k .used)
 
   -- a slot that stands at no place of a queue does not stand in it
   pub not-placed : (c i : ℕ) → c < 16 → ((k : ℕ) → k < lenOf s c → getD (s .queue) (128 * c + k) 0 ≡ i → ⊥) → times i (places s c) ≡ 0
@@ -198,29 +181,19 @@ module _ (s : Store) (w : Shaped s) (short : Short (s .lens)) where
       go u (inl e) = no _ u (ap isUsed e)
       go u (inr e) = e
 
-  -- back: the rules of each queue give those of its flat places
+  -- back: the rules of each queue give those of its places
   pub tails-of : ((c : ℕ) → c < 16 → drop (lenOf s c) (part (s .queue) c) ≡ replicate (128 - lenOf s c) 0) → Tails (s .queue) (s .lens)
-  tails-of h at l k =
-      let c = at / 128 in
-      let n : c < 16 = omega arith in
-      let j : lenOf s c + (at % 128 - lenOf s c) ≡ at % 128 = omega arith in
-      let e : 128 * c + (lenOf s c + (at % 128 - lenOf s c)) ≡ at = omega arith in
-      sym (ap (λ (n : ℕ). getD (s .queue) n 0) e) ∙ sym (past-at c n (at % 128 - lenOf s c) (omega arith)) ∙ rw (h c n) (getD-replicate (128 - lenOf s c) (at % 128 - lenOf s c) 0 0 (omega arith))
+  tails-of h c l k m n =
+      let p = k - 128 * c - lenOf s c in
+      let e : 128 * c + (lenOf s c + p) ≡ k = omega arith in
+      sym (ap (λ (n : ℕ). getD (s .queue) n 0) e) ∙ sym (past-at c l p (omega arith)) ∙ rw (h c l) (getD-replicate (128 - lenOf s c) p 0 0 (omega arith))
 
-  pub places-of : ((c : ℕ) → c < 16 → InOrder 0 (s .confirmations) (queueOf s c)) → ((c : ℕ) → c < 16 → Rest (queueOf s c)) → PlacesOk s
-  places-of o r at l k =
-      let c = at / 128 in
-      let n : c < 16 = omega arith in
-      let e : 128 * c + at % 128 ≡ at = omega arith in
-      record {
-        given = rw (← e, ← (in-places c n (at % 128) k)) (bounded-of (s .slots) (s .confirmations) 0 (places s c) (o c n) (at % 128) (omega (arith, count c n)));
-        follows = λ z.
-            let at-place : ℕ → Slot = slotIn (s .slots) (s .queue) in
-            let p = at % 128 - 1 in
-            let e′ : 128 * c + p ≡ at - 1 = omega arith in
-            let e″ : 128 * c + suc p ≡ at = omega arith in
-            let m : suc p < lenOf s c = omega arith in
-            let f = linked-of (s .slots) (s .confirmations) (places s c) (o c n) (r c n) p (omega (arith, count c n)) in
-            subst (λ (j : ℕ). Follows (at-place (at - 1)) (at-place j)) e″ (subst (λ (j : ℕ). Follows (at-place j) (at-place (128 * c + suc p))) e′
-            (rw (in-places c n p (omega arith), in-places c n (suc p) m) at f));
-      }
+  pub places-of : ((c : ℕ) → c < 16 → InOrder 0 (s .confirmations) (queueOf s c)) → ((c : ℕ) → c < 16 → Rest (queueOf s c)) → PlacesIn s
+  places-of o r c l p k = record {
+    given = rw (← (in-places c l p k)) (bounded-of (s .slots) (s .confirmations) 0 (places s c) (o c l) p (omega (arith, count c l)));
+    follows = λ z.
+        let e : suc (p - 1) ≡ p = omega arith in
+        let e′ : 128 * c + (p - 1) ≡ 128 * c + p - 1 = omega arith in
+        let f = linked-of (s .slots) (s .confirmations) (places s c) (o c l) (r c l) (p - 1) (omega (arith, count c l)) in
+        rw (in-places c l (p - 1) (omega arith), e, in-places c l p k, e′) at f;
+  }

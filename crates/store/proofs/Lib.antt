@@ -5,6 +5,8 @@ pub mod Canonical
 pub mod Walk
 pub mod Agree
 pub mod Once
+pub mod Gathered
+pub mod Bare
 pub mod Flat
 pub mod Cells
 pub mod Standing

@@ -4,7 +4,7 @@ use native.Mathlib.Omega.{arith}
 use mathlib.Core.Path.{_≡_, refl, sym, ap, _∙_}
 use mathlib.Core.Logic.{_⊎_, inl, inr}
 use mathlib.Core.Bool.{Bool, true, false, cond, _&&_}
-use mathlib.Core.List.{List, [], _∷_, map}
+use mathlib.Core.List.{List, [], _∷_}
 use native.Mathlib.Numerals.{add-one}
 use lib.Dec.{eqb, ltb}
 use lib.ListN.{length, getD, replicate, List·getD-eq-default}
@@ -19,7 +19,6 @@ use Rattle.plain.specs.Sound.{All}
 use Rattle.slots.specs.Meaning.{freeSlot, isUsed, noSlot, slotAt}
 use Rattle.slots.specs.Rules.{Holds}
 use Rattle.slots.specs.declared.Slot.{Slot}
-use Rattle.store.proofs.Agree.{agree-at}
 use Rattle.store.proofs.Canonical.{has-class}
 use Rattle.plain.proofs.Sums.{sum-same, sum-single, sum-nothing}
 use Rattle.store.proofs.Walk.{once-holds}
@@ -111,6 +110,13 @@ class-of s n h i u =
     go (inl e) = no _ u (ap isUsed e)
     go (inr e) = has-class (slotAt (s .slots) i) e
 
+-- the same of all used slots; and that a map has the flag of each slot
+abbrev pub HasClass : Store → Type 0
+HasClass s = (i : ℕ) → isUsed (slotAt (s .slots) i) ≡ true → slotAt (s .slots) i .class < 16
+
+abbrev pub Flagged : Store → (low high : ℕ) → Type 0
+Flagged s low high = (i : ℕ) → getD (usedOf low high) i false ≡ isUsed (slotAt (s .slots) i)
+
 module _ (s : Store) (once : Once s) where
   -- what stands in a queue is a used slot of the class
   pub mine-of : (c : ℕ) → c < 16 → All (Mine s c) (places s c)
@@ -129,12 +135,11 @@ module _ (s : Store) (once : Once s) where
   }
 
   -- the map that the walk leaves is the one that agrees
-  map-of : (lo hi low high : ℕ) → lo < 2 ^ 64 → hi < 2 ^ 64 → low < 2 ^ 64 → high < 2 ^ 64 → Shaped s → SlotsOk s
-      → usedOf low high ≡ map isUsed (s .slots) → Seen s 16 lo hi → (lo ≡ low) × (hi ≡ high)
-  map-of lo hi low high a b a′ b′ w ok u h =
+  map-of : (lo hi low high : ℕ) → lo < 2 ^ 64 → hi < 2 ^ 64 → low < 2 ^ 64 → high < 2 ^ 64 → HasClass s
+      → Flagged s low high → Seen s 16 lo hi → (lo ≡ low) × (hi ≡ high)
+  map-of lo hi low high a b a′ b′ ok u h =
       used-inj lo hi low high a b a′ b′
-      (ext-getD false (usedOf lo hi) (usedOf low high) (used-length lo hi ∙ sym (used-length low high))
-      (λ i l. flag i ∙ sym (agree-at low high (s .slots) u i)))
+      (ext-getD false (usedOf lo hi) (usedOf low high) (used-length lo hi ∙ sym (used-length low high)) (λ i l. flag i ∙ sym (u i)))
     where
       one : (b b′ : Bool) → _≡_ {A = ℕ} (cond b 1 0) (cond b′ 1 0) → b ≡ b′
       one true true e = refl
@@ -144,7 +149,7 @@ module _ (s : Store) (once : Once s) where
 
       all-stand : (i : ℕ) → sum (λ d. stands d (slotAt (s .slots) i)) 16 ≡ cond (isUsed (slotAt (s .slots) i)) 1 0
       all-stand i = by-test (isUsed (slotAt (s .slots) i))
-          (λ t. stands-in (slotAt (s .slots) i) 16 (class-of s (w .slots) ok i t))
+          (λ t. stands-in (slotAt (s .slots) i) 16 (ok i t))
           (λ f. sum-nothing (λ d. stands d (slotAt (s .slots) i)) 16 (λ d k. rw f) ∙ rw f)
 
       flag : (i : ℕ) → getD (usedOf lo hi) i false ≡ isUsed (slotAt (s .slots) i)
@@ -155,16 +160,15 @@ pub not-once : {s : Store} {c lo hi : ℕ} → c < 16 → Seen s c lo hi → (Fr
 not-once {s} {c} {lo} {hi} l h n = decides-false (λ once. n (fresh-of s once c lo hi l h))
 
 -- the walk's end: its map is the one that agrees exactly where the rule holds
-once-of : {s : Store} (lo hi : ℕ) → Shaped s → usedOf lo hi ≡ map isUsed (s .slots) → Seen s 16 lo hi → Once s
-once-of {s} lo hi w u h =
-    once-holds s w (h .mine) (λ i. sym (h .marks i) ∙ ap (λ (b : Bool). cond b 1 0) (agree-at lo hi (s .slots) u i))
+once-of : {s : Store} (lo hi : ℕ) → Shaped s → Flagged s lo hi → Seen s 16 lo hi → Once s
+once-of {s} lo hi w u h = once-holds s w (h .mine) (λ i. sym (h .marks i) ∙ ap (λ (b : Bool). cond b 1 0) (u i))
 
-pub at-last : {s : Store} {c : ℕ} (lo hi low high : ℕ) → lo < 2 ^ 64 → hi < 2 ^ 64 → low < 2 ^ 64 → high < 2 ^ 64 → Shaped s → SlotsOk s
-    → usedOf low high ≡ map isUsed (s .slots) → c ≡ 16 → Seen s c lo hi → Decides (eqb lo low && eqb hi high) (Once s)
+pub at-last : {s : Store} {c : ℕ} (lo hi low high : ℕ) → lo < 2 ^ 64 → hi < 2 ^ 64 → low < 2 ^ 64 → high < 2 ^ 64 → Shaped s → HasClass s
+    → Flagged s low high → c ≡ 16 → Seen s c lo hi → Decides (eqb lo low && eqb hi high) (Once s)
 at-last {s} lo hi low high a b a′ b′ w ok u e h =
     decides-as
     (λ q. once-of lo hi w (rw (q .0, q .1) u) all)
-    (λ once. map-of s once lo hi low high a b a′ b′ w ok u all)
+    (λ once. map-of s once lo hi low high a b a′ b′ ok u all)
     (decides-both (decides-eq lo low) (decides-eq hi high))
   where
     all : Seen s 16 lo hi

@@ -18,24 +18,24 @@ use Rattle.slots.specs.Rules.{Holds}
 use Rattle.store.specs.Store.{Store, Shaped}
 use Rattle.store.specs.Meaning.{queueOf}
 use Rattle.store.specs.Sound.{SlotsOk, Once}
-use Rattle.store.specs.Checks.{numbered}
+use Rattle.store.specs.Checks.{numbered, numbersOf}
 use Rattle.store.proofs.Canonical.{has-id}
 use Rattle.store.proofs.Standing.{passing, standing-is}
 
-module _ (l : List Slot) (i : ℕ) where
-  pub one-numbered : (slotAt l i .number ≡ 0 → ⊥) → numbered l (i + 1) ≡ numbered l i + 1
+module _ (number : ℕ → ℕ) (i : ℕ) where
+  pub one-numbered : (number i ≡ 0 → ⊥) → numbered number (i + 1) ≡ numbered number i + 1
   unfolding numbered sum
-  one-numbered n = rw (add-one, ne-eqb (slotAt l i .number) 0 n)
+  one-numbered n = rw (add-one, ne-eqb (number i) 0 n)
 
-  pub not-numbered : slotAt l i .number ≡ 0 → numbered l (i + 1) ≡ numbered l i
+  pub not-numbered : number i ≡ 0 → numbered number (i + 1) ≡ numbered number i
   unfolding numbered sum
-  not-numbered e = rw (add-one, eq-eqb (slotAt l i .number) 0 e) (omega arith)
+  not-numbered e = rw (add-one, eq-eqb (number i) 0 e) (omega arith)
 
-pub none-numbered : (l : List Slot) → 0 ≡ numbered l 0
+pub none-numbered : (number : ℕ → ℕ) → 0 ≡ numbered number 0
 unfolding numbered sum
-none-numbered l = refl
+none-numbered number = refl
 
-pub queued-confirmed : (s : Store) → Shaped s → SlotsOk s → Once s → sum (λ c. count isConfirmed (queueOf s c)) 16 ≡ numbered (s .slots) 128
+pub queued-confirmed : (s : Store) → Shaped s → SlotsOk s → Once s → sum (λ c. count isConfirmed (queueOf s c)) 16 ≡ numbered (numbersOf (s .slots)) 128
 unfolding numbered
 queued-confirmed s w ok once = standing-is s (w .slots) ok once isConfirmed ∙ sum-same _ _ 128 (λ i l. each i (ok i l))
   where

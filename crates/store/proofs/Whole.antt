@@ -7,7 +7,7 @@ use Rattle.slots.specs.Meaning.{isUsed}
 use Rattle.store.proofs.Flat.{ordered, past-of, places-of, tails-of}
 use Rattle.store.proofs.KeptIds.{differ-of, apart-of}
 use Rattle.store.proofs.Tally.{queued-confirmed}
-use Rattle.store.specs.Checks.{CellsOk, Differ, KeptOk, PlacesOk, Tails, numbered}
+use Rattle.store.specs.Checks.{CellsOk, Differ, KeptOk, PlacesIn, Tails, idsOf, numbered, numbersOf}
 use Rattle.store.specs.Sound.{Laid, Once, Short, SlotsOk, Sound, Unused}
 use Rattle.store.specs.Store.{Shaped, Store}
 use Rattle.usedmap.specs.Flags.{usedOf}
@@ -17,8 +17,8 @@ module _ (s : Store) (w : Shaped s) where
   laid-of a b t u o z = record { free-or-valid = a; not-longer-than-128 = b; exactly-once = o; past-the-end-zero = λ c l. past-of s w b c l t; map-agrees = u; unused-zero = z }
 
   module _ (base wrk : List ℕ) where
-    pub sound-of : Laid s → Differ (s .slots) → PlacesOk s → s .commits ≤ s .confirmations → s .confirmations - s .commits ≡ numbered (s .slots) 128 → CellsOk s base wrk
-        → KeptOk (s .slots) (s .confirmations) (s .kept) → Sound s base wrk
+    pub sound-of : Laid s → Differ (idsOf (s .slots)) (numbersOf (s .slots)) → PlacesIn s → s .commits ≤ s .confirmations → s .confirmations - s .commits ≡ numbered (numbersOf (s .slots)) 128 → CellsOk s base wrk
+        → KeptOk (idsOf (s .slots)) (numbersOf (s .slots)) (s .confirmations) (s .kept) → Sound s base wrk
     sound-of h d p l n k ids = record {
       laid = h;
       ids-differ = d .ids;
@@ -36,18 +36,18 @@ module _ (s : Store) (w : Shaped s) where
       pub tails-in : Tails (s .queue) (s .lens)
       tails-in = tails-of s w (h .laid .not-longer-than-128) (h .laid .past-the-end-zero)
 
-      pub differ-in : Differ (s .slots)
+      pub differ-in : Differ (idsOf (s .slots)) (numbersOf (s .slots))
       differ-in = record { ids = h .ids-differ; numbers = h .numbers-differ }
 
-      pub kept-in : KeptOk (s .slots) (s .confirmations) (s .kept)
+      pub kept-in : KeptOk (idsOf (s .slots)) (numbersOf (s .slots)) (s .confirmations) (s .kept)
       kept-in = record {
         filled = record { not-zero = h .kept-not-zero; unused = h .laid .unused-zero };
         apart = apart-of (s .confirmations) (s .kept) (h .laid .unused-zero) (h .kept-differ);
         matching = h .kept-queued;
       }
 
-      pub places-in : PlacesOk s
+      pub places-in : PlacesIn s
       places-in = places-of s w (h .laid .not-longer-than-128) (h .confirmed-before-waiting) (h .only-a-head-done)
 
-      pub tally-in : s .confirmations ≡ s .commits + numbered (s .slots) 128
+      pub tally-in : s .confirmations ≡ s .commits + numbered (numbersOf (s .slots)) 128
       tally-in = omega (arith, h .counts-agree, queued-confirmed s w (h .laid .free-or-valid) (h .laid .exactly-once))

@@ -1,12 +1,13 @@
 -- What the walk over the queues looks at. Assumes nothing.
-use Prim.Native.Nat.{ℕ, zero, _+_, _-_, _/_, _%_, _<_, _≤_}
+use Prim.Native.Nat.{ℕ, _+_, _*_, _-_, _%_, _<_, _≤_}
 use mathlib.Core.Path.{_≡_}
 use mathlib.Core.Logic.{_↔_}
-use mathlib.Core.Bool.{true, false, cond}
+use mathlib.Core.Bool.{true, false, cond, not, _&&_}
 use mathlib.Core.List.{List}
 use lib.Dec.{eqb}
-use lib.ListN.{getD, take, replicate}
-use Rattle.plain.specs.Sizes.{slotCount, keptCount}
+use lib.ListN.{getD, length, take, replicate}
+use Rattle.places.specs.Moves.{part}
+use Rattle.plain.specs.Sizes.{classCount, slotCount, keptCount}
 use Rattle.plain.specs.Site.{sum, Recent}
 use Rattle.plain.specs.Sound.{All}
 use Rattle.slots.specs.Meaning.{isUsed, slotAt}
@@ -14,7 +15,7 @@ use Rattle.slots.specs.Steps.{Follows}
 use Rattle.slots.specs.declared.Slot.{Slot}
 use Rattle.store.specs.Meaning.{cellsOf, lenOf, places, queueOf, under}
 use Rattle.store.specs.Sound.{Apart, Cells, times}
-use Rattle.store.specs.Store.{Store}
+use Rattle.store.specs.Store.{Store, placeCount}
 use Rattle.usedmap.specs.Flags.{usedOf}
 
 -- what the pieces of the check are given of a site: its rules look at nothing else
@@ -44,35 +45,101 @@ pub record Upto (s : Store) (c lo hi p lo′ hi′ : ℕ) : Type 0 where
   pub mine : All (Mine s c) (take p (places s c))
   pub marks : (i : ℕ) → mark lo′ hi′ i ≡ mark lo hi i + times i (take p (places s c))
 
--- The rules as the walks over flat places look at them
--- flat queue places past the end of their class are zero
-abbrev pub Tails : List ℕ → List ℕ → Type 0
-Tails queue lens = (at : ℕ) → at < 2048 → getD lens (at / 128) 0 ≤ at % 128 → getD queue at 0 ≡ 0
+-- The rules as the walks look at them: over the fields of the slots, each a function of the slot, and over the queue places, place p of class c
+-- at 128 c + p
+abbrev pub idsOf : List Slot → ℕ → ℕ
+idsOf l i = slotAt l i .id
+
+abbrev pub classesOf : List Slot → ℕ → ℕ
+classesOf l i = slotAt l i .class
+
+abbrev pub numbersOf : List Slot → ℕ → ℕ
+numbersOf l i = slotAt l i .number
+
+abbrev pub donesOf : List Slot → ℕ → ℕ
+donesOf l i = slotAt l i .done
+
+abbrev pub marksOf : List Slot → ℕ → ℕ
+marksOf l i = slotAt l i .mark
+
+-- what stands at a place of a list, 0 past its end
+abbrev pub nth : List ℕ → ℕ → ℕ
+nth l i = getD l i 0
+
+-- lists that hold the fields of the slots
+pub record Gathered (l : List Slot) (ids classes numbers dones marks : List ℕ) : Type 0 where
+  pub id : nth ids ≡ idsOf l
+  pub class : nth classes ≡ classesOf l
+  pub number : nth numbers ≡ numbersOf l
+  pub done : nth dones ≡ donesOf l
+  pub mark : nth marks ≡ marksOf l
+  pub long : (length ids ≡ slotCount) × (length classes ≡ slotCount)
+
+-- the lengths of what the walk over the queues is given
+pub record Long (ids classes queue lens : List ℕ) : Type 0 where
+  pub ids-long : length ids ≡ slotCount
+  pub classes-long : length classes ≡ slotCount
+  pub queue-long : length queue ≡ placeCount
+  pub lens-long : length lens ≡ classCount
+
+-- a used slot's class is one of the 16
+abbrev pub Classed : (id class : ℕ → ℕ) → Type 0
+Classed id class = (i : ℕ) → 0 < id i → class i < classCount
+
+-- the map of used slots agrees
+abbrev pub MapOf : (low high : ℕ) → (ℕ → ℕ) → Type 0
+MapOf low high id = (i : ℕ) → i < slotCount → getD (usedOf low high) i false ≡ not (eqb (id i) 0)
+
+-- every used slot stands exactly once, in the queue of its class, and no free slot stands in one
+abbrev pub OnceIn : (id class : ℕ → ℕ) → (queue lens : List ℕ) → Type 0
+OnceIn id class queue lens =
+    (c i : ℕ) → c < classCount → times i (take (nth lens c) (part queue c)) ≡ cond (not (eqb (id i) 0) && eqb (class i) c) 1 0
+
+-- a free slot has no number
+abbrev pub Unnumbered : (id number : ℕ → ℕ) → Type 0
+Unnumbered id number = (i : ℕ) → id i ≡ 0 → number i ≡ 0
+
+-- places from one to before another are zero; queue places past the end of their class are
+abbrev pub ZeroFrom : List ℕ → (from end : ℕ) → Type 0
+ZeroFrom queue from end = (k : ℕ) → k < end → from ≤ k → nth queue k ≡ 0
+
+abbrev pub Tails : (queue lens : List ℕ) → Type 0
+Tails queue lens = (c : ℕ) → c < classCount → ZeroFrom queue (slotCount * c + nth lens c) (slotCount * c + slotCount)
 
 -- ids differ, and confirmed numbers differ
-pub record Differ (l : List Slot) : Type 0 where
-  pub ids : Apart 128 (λ i. slotAt l i .id)
-  pub numbers : Apart 128 (λ i. slotAt l i .number)
+pub record Differ (id number : ℕ → ℕ) : Type 0 where
+  pub ids : Apart slotCount id
+  pub numbers : Apart slotCount number
 
--- the slot at a flat queue place
-abbrev pub slotIn : List Slot → List ℕ → ℕ → Slot
-slotIn l queue at = slotAt l (getD queue at 0)
+-- slot j may stand directly behind slot i
+abbrev pub Behind : (number done mark : ℕ → ℕ) → ℕ → ℕ → Type 0
+Behind number done mark i j = Follows (number i) (number j) (done j) (mark j)
 
--- a flat queue place that counts: its number is one that was given, and it may stand behind the place before it
-pub record PlaceOk (l : List Slot) (queue : List ℕ) (top at : ℕ) : Type 0 where
-  pub given : slotIn l queue at .number ≤ top
-  pub follows : 0 < at % 128 → Follows (slotIn l queue (at - 1)) (slotIn l queue at)
+-- place p of a queue that begins at flat place a: its number is one that was given, and it may stand behind the place before it
+pub record PlaceOk (number done mark : ℕ → ℕ) (queue : List ℕ) (top a p : ℕ) : Type 0 where
+  pub given : number (nth queue (a + p)) ≤ top
+  pub follows : 0 < p → Behind number done mark (nth queue (a + p - 1)) (nth queue (a + p))
 
-abbrev pub PlacesOk : Store → Type 0
-PlacesOk s = (at : ℕ) → at < 2048 → at % 128 < lenOf s (at / 128) → PlaceOk (s .slots) (s .queue) (s .confirmations) at
+-- all places of such a queue, and of all queues
+abbrev pub QueueOk : (number done mark : ℕ → ℕ) → List ℕ → (top a len : ℕ) → Type 0
+QueueOk number done mark queue top a len = (p : ℕ) → p < len → PlaceOk number done mark queue top a p
 
--- all flat places that count name slots
-abbrev pub InRange : Store → Type 0
-InRange s = (at : ℕ) → at < 2048 → at % 128 < lenOf s (at / 128) → getD (s .queue) at 0 < 128
+abbrev pub PlacesOk : (number done mark : ℕ → ℕ) → (queue lens : List ℕ) → ℕ → Type 0
+PlacesOk number done mark queue lens top = (c : ℕ) → c < classCount → QueueOk number done mark queue top (slotCount * c) (nth lens c)
+
+abbrev pub PlacesIn : Store → Type 0
+PlacesIn s = PlacesOk (numbersOf (s .slots)) (donesOf (s .slots)) (marksOf (s .slots)) (s .queue) (s .lens) (s .confirmations)
+
+-- all places of such a queue name slots, and of all queues
+abbrev pub Named : List ℕ → (a len : ℕ) → Type 0
+Named queue a len = (p : ℕ) → p < len → nth queue (a + p) < slotCount
+
+abbrev pub InRange : (queue lens : List ℕ) → Type 0
+InRange queue lens = (c : ℕ) → c < classCount → Named queue (slotCount * c) (nth lens c)
 
 -- how many slots hold a number
-unfoldable pub numbered : List Slot → ℕ → ℕ
-numbered l n = sum (λ i. cond (eqb (slotAt l i .number) 0) 0 1) n
+unfoldable pub numbered : (ℕ → ℕ) → ℕ → ℕ
+numbered number n = sum (λ i. cond (eqb (number i) 0) 0 1) n
 
 -- The kept ids, as the walk over their places looks at them, after `top` confirmations
 -- a place is that of one of the last 256 numbers; or of one up to 256 that was not given yet
@@ -99,14 +166,14 @@ Among kept len i = (p : ℕ) × (p < len) × (getD kept p 0 ≡ i)
 abbrev pub MatchesAll : ℕ → List ℕ → (number id : ℕ) → Type 0
 MatchesAll top kept number id = (n : ℕ) → Recent top n → (number ≡ n) ↔ (id ≡ under kept n)
 
-abbrev pub Matching : List Slot → ℕ → List ℕ → Type 0
-Matching l top kept = (i : ℕ) → i < slotCount → isUsed (slotAt l i) ≡ true → MatchesAll top kept (slotAt l i .number) (slotAt l i .id)
+abbrev pub Matching : (id number : ℕ → ℕ) → ℕ → List ℕ → Type 0
+Matching id number top kept = (i : ℕ) → i < slotCount → not (eqb (id i) 0) ≡ true → MatchesAll top kept (number i) (id i)
 
 -- the rules of kept ids together
-pub record KeptOk (l : List Slot) (top : ℕ) (kept : List ℕ) : Type 0 where
+pub record KeptOk (id number : ℕ → ℕ) (top : ℕ) (kept : List ℕ) : Type 0 where
   pub filled : Filled top kept
   pub apart : KeptApart kept
-  pub matching : Matching l top kept
+  pub matching : Matching id number top kept
 
 abbrev pub CellsOk : Store → List ℕ → List ℕ → Type 0
 CellsOk s base wrk = (c : ℕ) → c < 16 → Cells (queueOf s c) (cellsOf base c) (cellsOf wrk c)

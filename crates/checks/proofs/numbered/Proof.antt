@@ -5,34 +5,35 @@ use mathlib.Core.Path.{_≡_}
 use mathlib.Core.Logic.{⊎-elim}
 use borrow.Author.Needs.{needs}
 use Rattle.plain.specs.Sizes.{slotCount}
-use Rattle.store.specs.Checks.{numbered}
+use Rattle.store.specs.Checks.{nth, numbered}
 use Rattle.store.proofs.Tally.{one-numbered, not-numbered, none-numbered}
 use Rattle.checks.proofs.numbered.Statement.{statement}
 use Rattle.checks.proofs.numbered.Tie as tie
 
 abbrev Inv-loop : tie.InvT-loop
-Inv-loop slots n₀ s₀ n s = (s ≤ slotCount) × (n ≤ s) × (n ≡ numbered slots s)
+Inv-loop numbers n₀ s₀ n s = (s ≤ slotCount) × (n ≤ s) × (n ≡ numbered (nth numbers) s)
 
 abbrev μ-loop : tie.MeasureT-loop
-μ-loop slots n₀ s₀ n s = slotCount - s
+μ-loop numbers n₀ s₀ n s = slotCount - s
 
 loop-holds : tie.Need-loop-holds Inv-loop μ-loop
 loop-holds c = (search needs, search needs, none-numbered _)
 
 loop-again : tie.Need-loop-again Inv-loop μ-loop
 loop-again c =
-    let slots· = c .before .before .before .args .t1 in
-    let s· = c .before .before .loop .s in (
+    let if1· = c .if1 in
+    let numbers· = nth (c .before .before .before .before .args .numbers .now) in
+    let s· = c .before .before .before .loop .s in (
       search needs,
-      ⊎-elim (λ w. omega (arith, w .1)) (λ w. omega (arith, w .1)) (c .if1 .came),
+      ⊎-elim (λ w. omega (arith, w .1)) (λ w. omega (arith, w .1)) (if1· .came),
       ⊎-elim
-          (λ w. omega (arith, w .1, one-numbered slots· s· (w .0 .taken)))
-          (λ w. omega (arith, w .1, not-numbered slots· s· (w .0 .left)))
-          (c .if1 .came),
+          (λ w. omega (arith, w .1, one-numbered numbers· s· (w .0 .taken)))
+          (λ w. omega (arith, w .1, not-numbered numbers· s· (w .0 .left)))
+          (if1· .came),
     )
 
 returns : tie.Need-returns Inv-loop μ-loop
-returns c = let e : c .before .loop .s ≡ slotCount = omega arith in rw e at (c .before .loop .inv .2)
+returns c = let loop· = c .before .loop in let e : loop· .s ≡ slotCount = omega arith in rw e at (loop· .inv .2)
 
 pub numbered-spec : {M : Type 1} → statement M
 numbered-spec =

@@ -3,41 +3,40 @@ use Prim.Native.Nat.{ℕ, _-_, _<_, _≤_}
 use native.Mathlib.Omega.{arith}
 use mathlib.Core.Path.{_≡_}
 use mathlib.Core.Logic.{⊎-elim}
-use mathlib.Core.Bool.{true}
+use mathlib.Core.Bool.{true, not}
+use lib.Dec.{eqb}
 use borrow.Author.Count.{below-none, below-more}
 use borrow.Author.Needs.{needs}
 use borrow.Author.Tests.{not-true, not-false}
 use Rattle.plain.proofs.Deciding.{decides-true, decides-false}
-use Rattle.slots.specs.Meaning.{isUsed, slotAt}
-use Rattle.store.specs.Checks.{MatchesAll}
-use Rattle.kept.proofs.Places.{in-use-slot, no-id}
+use Rattle.store.specs.Checks.{MatchesAll, nth}
+use Rattle.kept.proofs.Places.{some-id, no-id}
 use Rattle.kept.proofs.all_match.Statement.{statement}
 use Rattle.kept.proofs.all_match.Tie as tie
 
 abbrev Inv-loop : tie.InvT-loop
-Inv-loop kept marks confirmations slots i₀ i =
-    (i ≤ 128) × ((k : ℕ) → k < i → isUsed (slotAt slots k) ≡ true → MatchesAll confirmations kept (slotAt slots k .number) (slotAt slots k .id))
+Inv-loop ids numbers kept marks confirmations i₀ i =
+    (i ≤ 128) × ((k : ℕ) → k < i → not (eqb (nth ids k) 0) ≡ true → MatchesAll confirmations kept (nth numbers k) (nth ids k))
 
 abbrev μ-loop : tie.MeasureT-loop
-μ-loop kept marks confirmations slots i₀ i = 128 - i
+μ-loop ids numbers kept marks confirmations i₀ i = 128 - i
 
 loop-holds : tie.Need-loop-holds Inv-loop μ-loop
 loop-holds c = (search needs, below-none _)
 
 matches-requires : tie.Need-matches-requires Inv-loop μ-loop
 matches-requires c κs =
-    let pre· = c .before .before .before .pre in (pre· .0, pre· .1, pre· .2, omega (arith, c .if1 .taken))
+    let pre· = c .before .before .before .before .before .pre in (pre· .0, pre· .1, pre· .2, omega (arith, c .before .if1 .taken))
 
 returns : tie.Need-returns Inv-loop μ-loop
-returns c = decides-false (λ h. c .before .matches .ensures .no (not-true _ (c .if2 .taken))
-    (h _ (omega arith) (in-use-slot (slotAt (c .before .before .before .before .before .args .t1) (c .before .before .before .before .loop .i)) (c .before .before .if1 .taken))))
+returns c = decides-false (λ h. c .before .matches .ensures .no (not-true _ (c .if2 .taken)) (h _ (omega arith) (some-id _ (c .before .before .before .if1 .taken))))
 
 loop-again : tie.Need-loop-again Inv-loop μ-loop
 loop-again c = (
   search needs,
-  below-more _ _ (c .before .before .loop .inv .1) (⊎-elim
-      (λ w _. w .1 .ensures .yes (not-false _ (w .2 .left)))
-      (λ w u. absurd (no-id (slotAt (c .before .before .before .args .t1) (c .before .before .loop .i)) (w .left) u))
+  below-more _ _ (c .before .before .before .loop .inv .1) (⊎-elim
+      (λ w _. w .2 .ensures .yes (not-false _ (w .3 .left)))
+      (λ w u. absurd (no-id _ (w .left) u))
       (c .if1 .came)),
 )
 

@@ -9,21 +9,20 @@ returns : tie.Need-returns
 returns c = decides-false (λ h. c .before .filled .ensures .no (not-true _ (c .if1 .taken)) (h .filled))
 
 returns-2 : tie.Need-returns-2
-returns-2 c = decides-false (λ h. c .before .before .mark .ensures .0 .no (not-true _ (c .if2 .taken)) (h .apart))
+returns-2 c = decides-false (λ h. c .before .mark .ensures .0 .no (not-true _ (c .if2 .taken)) (h .apart))
 
 all-match-requires : tie.Need-all-match-requires
 all-match-requires c κs =
-    let marked· = c .before .before .before .before in
+    let mark· = c .before .before .before .mark in
     let differ = not-false _ (c .before .before .if2 .left) in
-    (marked· .mark .ensures .1 differ, marked· .before .before .filled .ensures .yes (not-false _ (marked· .before .if1 .left)), marked· .mark .ensures .0 .yes differ)
+    (mark· .ensures .1 differ, c .before .before .before .before .before .filled .ensures .yes (not-false _ (c .before .before .before .before .if1 .left)), mark· .ensures .0 .yes differ)
 
 returns-3 : tie.Need-returns-3
 returns-3 c =
-    let marked· = c .before .before .before .before .before in
     decides-as
     (λ m. record {
-      filled = marked· .before .before .filled .ensures .yes (not-false _ (marked· .before .if1 .left));
-      apart = marked· .mark .ensures .0 .yes (not-false _ (c .before .before .before .if2 .left));
+      filled = c .before .before .before .before .before .before .filled .ensures .yes (not-false _ (c .before .before .before .before .before .if1 .left));
+      apart = c .before .before .before .before .mark .ensures .0 .yes (not-false _ (c .before .before .before .if2 .left));
       matching = m;
     })
     (λ h. h .matching)

@@ -8,7 +8,7 @@ use Rattle.site.specs.Held.{store}
 use Rattle.site.proofs.Shape.{shaped}
 use Rattle.slots.specs.Meaning.{slotAt}
 use Rattle.store.specs.Meaning.{lenOf}
-use Rattle.store.proofs.Flat.{place-small}
+use Rattle.store.proofs.Flat.{in-range}
 use Rattle.site.proofs.Site.first_waiting.Statement.{statement}
 use Rattle.site.proofs.Site.first_waiting.Tie as tie
 
@@ -44,8 +44,8 @@ mul-if1 c =
     let c₁ = c .before .before .before .before in
     let args· = c₁ .args in
     let pre· = c₁ .pre in
-    let small = place-small (store (args· .t1)) (shaped (args· .t1) _ (c₁ .good .0)) (pre· .0 .not-longer-than-128) (pre· .0 .exactly-once)
-    (args· .c) (c .before .before .loop .p) (pre· .1) (c .before .loop-test .taken) in
+    let small = in-range (store (args· .t1)) (shaped (args· .t1) _ (c₁ .good .0)) (pre· .0 .not-longer-than-128) (pre· .0 .exactly-once)
+    (args· .c) (pre· .1) (c .before .before .loop .p) (c .before .loop-test .taken) in
     record { fits = omega arith }
 
 element-copy-out-if1 : tie.Need-element-copy-out-if1 Inv-loop μ-loop
@@ -53,8 +53,8 @@ element-copy-out-if1 c =
     let c₁ = c .before .before .before .before in
     let args· = c₁ .args in
     let pre· = c₁ .pre in
-    place-small (store (args· .t1)) (shaped (args· .t1) _ (c₁ .good .0)) (pre· .0 .not-longer-than-128) (pre· .0 .exactly-once) (args· .c) (c .before
-    .before .loop .p) (pre· .1) (c .before .loop-test .taken)
+    in-range (store (args· .t1)) (shaped (args· .t1) _ (c₁ .good .0)) (pre· .0 .not-longer-than-128) (pre· .0 .exactly-once) (args· .c) (pre· .1)
+    (c .before .before .loop .p) (c .before .loop-test .taken)
 
 returns : tie.Need-returns Inv-loop μ-loop
 returns c = record { within = omega (arith, c .before .before .loop-test .taken); before = c .before .before .before .loop .inv .1; waits = λ l. c .if1 .taken }
