@@ -12,6 +12,10 @@ use Rattle.store.specs.Calls.{State}
 use Rattle.store.proofs.Promise as P
 use Rattle.host.specs.Told.{told, Told}
 
+-- what is told of a value whose case is known
+pub known : {A : Type 0} (f : A → List ℕ) (a b : A) (t : List ℕ) → a ≡ b → t ≡ f b → t ≡ f a
+known f a b t e h = rw e h
+
 -- the answer that six numbers tell: what it is, and its numbers
 abbrev answerAt : ℕ → (ℕ → ℕ) → Answer
 answerAt what n =

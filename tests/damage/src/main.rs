@@ -13,40 +13,26 @@ mod subject;
 mod tally;
 mod view;
 
+use model::command::{Found, compared};
+use model::stream::KINDS;
 use run::Run;
-use std::env;
-use std::error::Error;
 use std::io;
 use std::process::ExitCode;
 
 /// Streams where no number is given: two of each kind.
-const STREAMS: u64 = 22;
+const STREAMS: u64 = 2 * KINDS.len() as u64;
 /// The seed where none is given.
 const SEED: u64 = 1;
 
 /// Runs, and tells by the exit status how it went.
 fn main() -> ExitCode {
-    match run() {
-        Ok(true) => ExitCode::SUCCESS,
-        Ok(false) => ExitCode::FAILURE,
-        Err(problem) => {
-            eprintln!("damage: {problem}");
-            ExitCode::FAILURE
-        }
-    }
+    compared("damage", [STREAMS, SEED], run)
 }
 
-/// Makes the run that the command line asks for; whether all that should occur has occurred.
-fn run() -> Result<bool, Box<dyn Error>> {
-    let numbers = env::args().skip(1).map(|word| word.parse()).collect::<Result<Vec<u64>, _>>()?;
-    let streams = numbers.first().copied().unwrap_or(STREAMS);
-    let seed = numbers.get(1).copied().unwrap_or(SEED);
+/// Makes so many streams from a seed; what should have occurred and never did.
+fn run(streams: u64, seed: u64) -> Found {
     let mut run = Run::new(seed);
     run.go(streams, seed)?;
     run.tally.write_to(&mut io::stdout().lock())?;
-    let missing = run.tally.missing();
-    for what in &missing {
-        println!("never occurred: {what}");
-    }
-    Ok(missing.is_empty())
+    Ok(run.tally.missing())
 }

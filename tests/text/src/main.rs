@@ -8,9 +8,8 @@ mod odd;
 mod run;
 mod tally;
 
+use model::command::{Found, compared};
 use run::Run;
-use std::env;
-use std::error::Error;
 use std::io;
 use std::process::ExitCode;
 
@@ -21,27 +20,13 @@ const SEED: u64 = 1;
 
 /// Runs, and tells by the exit status how it went.
 fn main() -> ExitCode {
-    match run() {
-        Ok(true) => ExitCode::SUCCESS,
-        Ok(false) => ExitCode::FAILURE,
-        Err(problem) => {
-            eprintln!("text: {problem}");
-            ExitCode::FAILURE
-        }
-    }
+    compared("text", [RECORDS, SEED], run)
 }
 
-/// Makes the run that the command line asks for; whether all that should occur has occurred.
-fn run() -> Result<bool, Box<dyn Error>> {
-    let numbers = env::args().skip(1).map(|word| word.parse()).collect::<Result<Vec<u64>, _>>()?;
-    let records = numbers.first().copied().unwrap_or(RECORDS);
-    let seed = numbers.get(1).copied().unwrap_or(SEED);
+/// Compares so many records, with chance from a seed; what should have occurred and never did.
+fn run(records: u64, seed: u64) -> Found {
     let mut run = Run::new(seed);
     run.go(records)?;
     run.tally.write_to(&mut io::stdout().lock())?;
-    let missing = run.tally.missing();
-    for what in &missing {
-        println!("never occurred: {what}");
-    }
-    Ok(missing.is_empty())
+    Ok(run.tally.missing())
 }
