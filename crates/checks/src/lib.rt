@@ -1,23 +1,21 @@
 // The pieces of the soundness check: each decides one of document 01's rules, of the slots' fields gathered once, the queue places and the
 // classes' lengths.
 ghost use mathlib.Core.Path.{_≡_};
-ghost use mathlib.Core.Bool.{true};
 ghost use mathlib.Core.List.{[]};
 ghost use Prim.Native.Nat.{_+_, _≤_};
 ghost use lib.ListN.{length};
 ghost use Rattle.plain.specs.Sizes.{slotCount};
 ghost use Rattle.plain.specs.Decides.{Decides};
 ghost use Rattle.store.specs.Store.{runSize, placeCount};
-ghost use Rattle.store.specs.Sound.{SlotsOk, Short, Once};
-ghost use Rattle.store.specs.Checks.{arrays, nth, Gathered, Long, Classed, MapOf, OnceIn, Unnumbered, Differ, ZeroFrom, Tails};
-ghost use Rattle.store.specs.Checks.{QueueOk, PlacesOk, Named, InRange, numbered, CellsOk};
+ghost use Rattle.store.specs.Sound.{SlotsOk, Short};
+ghost use Rattle.store.specs.Checks.{arrays, nth, Owned, Staged, Long, Classed, MapOf, OnceIn, Unnumbered, Differ, ZeroFrom, Tails};
+ghost use Rattle.store.specs.Checks.{QueueOk, PlacesOk, Named, InRange, numbered, LaidOut, Heads, HeadsHold, HeadCells};
 use cells::CELLS;
 use cells::CLASSES;
 use cells::same_cells;
 use slots::Slot;
 use slots::follows;
-use slots::holds;
-use slots::is_zero;
+use slots::slot_ok;
 use slots::steps::head_ok;
 use usedmap::UsedMap;
 
@@ -32,55 +30,62 @@ const LONGEST: u8 = 128;
 // What stands at a queue place is a slot if it is below this.
 const SLOT_LIMIT: u8 = 128;
 
-// What the rules look at in the slots, a list for each field; where a slot is neither free nor valid, not ok.
-pub struct Fields {
+// The slots' ids and classes; where a slot is neither free nor valid, not ok.
+pub struct Owners {
     pub ok: bool,
     pub ids: [u32; SLOTS],
     pub classes: [u8; SLOTS],
+}
+
+// "Each slot is free and all zero, or holds a valid record": whether, with their ids and classes.
+pub fn gather_owners(slots: [Slot; SLOTS]) -> Owners
+    ensures { λ r. ⌜ Decides (r .ok) (SlotsOk (arrays slots [] [] 0)) ⌝ }
+    ensures { λ r. ⌜ Owned slots (r .ids) (r .classes) ⌝ }
+{
+    let mut o = Owners {
+        ok: true,
+        ids: [0; SLOTS],
+        classes: [0; SLOTS],
+    };
+    let mut i = 0;
+    while i < SLOTS {
+        let v = slots[i];
+        o.ok = o.ok & slot_ok(v);
+        o.ids[i] = slots[i].id;
+        o.classes[i] = slots[i].class;
+        i += 1;
+    }
+    o
+}
+
+// How far the slots' requests have come: their numbers, done operations and marks.
+pub struct Stages {
     pub numbers: [u32; SLOTS],
     pub dones: [u8; SLOTS],
     pub marks: [u8; SLOTS],
 }
 
-// "Each slot is free and all zero, or holds a valid record": if so, with their fields.
-pub fn gather(slots: [Slot; SLOTS]) -> Fields
-    ensures { λ r. ⌜ Decides (r .ok) (SlotsOk (arrays slots [] [] 0)) ⌝ }
-    ensures { λ r. ⌜ (r .ok ≡ true → Gathered slots (r .ids) (r .classes) (r .numbers) (r .dones) (r .marks)) ⌝ }
+// The stages of the slots.
+pub fn gather_stages(slots: [Slot; SLOTS]) -> Stages
+    ensures { λ r. ⌜ Staged slots (r .numbers) (r .dones) (r .marks) ⌝ }
 {
-    let mut f = Fields {
-        ok: false,
-        ids: [0; SLOTS],
-        classes: [0; SLOTS],
+    let mut g = Stages {
         numbers: [0; SLOTS],
         dones: [0; SLOTS],
         marks: [0; SLOTS],
     };
-    let mut i = 0;
-    while i < SLOTS {
-        if slots[i].id == 0 {
-            let v = slots[i];
-            if !is_zero(v) {
-                return f;
-            }
-        } else {
-            let v = slots[i];
-            if !holds(v) {
-                return f;
-            }
-        }
-        f.ids[i] = slots[i].id;
-        f.classes[i] = slots[i].class;
-        f.numbers[i] = slots[i].number;
-        f.dones[i] = slots[i].done;
-        f.marks[i] = slots[i].mark;
-        i += 1;
+    let mut at = 0;
+    while at < SLOTS {
+        g.numbers[at] = slots[at].number;
+        g.dones[at] = slots[at].done;
+        g.marks[at] = slots[at].mark;
+        at += 1;
     }
-    f.ok = true;
-    f
+    g
 }
 
 // "No queue is longer than 128."
-pub fn lens_short(lens: &[u8; CLASSES]) -> bool
+fn lens_short(lens: &[u8; CLASSES]) -> bool
     ensures { λ r. ⌜ Decides r (Short (now (lens .entry))) ⌝ }
 {
     let mut c = 0;
@@ -108,7 +113,7 @@ fn zero_from(queue: &[u8; PLACES], from: usize, end: usize) -> bool
 }
 
 // "Queue places past the end are zero."
-pub fn tails_zero<'a>(queue: &'a [u8; PLACES], lens: &'a [u8; CLASSES]) -> bool
+fn tails_zero<'a>(queue: &'a [u8; PLACES], lens: &'a [u8; CLASSES]) -> bool
     requires { ⌜ Short (now lens) ⌝ }
     ensures { λ r. ⌜ Decides r (Tails (now (queue .entry)) (now (lens .entry))) ⌝ }
 {
@@ -124,7 +129,7 @@ pub fn tails_zero<'a>(queue: &'a [u8; PLACES], lens: &'a [u8; CLASSES]) -> bool
 }
 
 // "The map of used slots agrees."
-pub fn map_agrees(ids: &[u32; SLOTS], low: u64, high: u64) -> bool
+fn map_agrees(ids: &[u32; SLOTS], low: u64, high: u64) -> bool
     ensures { λ r. ⌜ Decides r (MapOf low high (nth (now (ids .entry)))) ⌝ }
 {
     let m = UsedMap { lo: low, hi: high };
@@ -140,7 +145,7 @@ pub fn map_agrees(ids: &[u32; SLOTS], low: u64, high: u64) -> bool
 }
 
 // "Every used slot stands exactly once, in the queue of its class, and no free slot stands in one."
-pub fn each_once<'a>(
+fn each_once<'a>(
     ids: &'a [u32; SLOTS],
     classes: &'a [u8; SLOTS],
     queue: &'a [u8; PLACES],
@@ -181,7 +186,7 @@ pub fn each_once<'a>(
 }
 
 // "Ids differ", and "confirmed numbers differ over the whole site": over the pairs of slots, left at the first breach. A free slot is passed over.
-pub fn pairs_differ<'a>(ids: &'a [u32; SLOTS], numbers: &'a [u32; SLOTS]) -> bool
+fn pairs_differ<'a>(ids: &'a [u32; SLOTS], numbers: &'a [u32; SLOTS]) -> bool
     requires { ⌜ Unnumbered (nth (now ids)) (nth (now numbers)) ⌝ }
     ensures { λ r. ⌜ Decides r (Differ (nth (now (ids .entry))) (nth (now (numbers .entry)))) ⌝ }
 {
@@ -243,7 +248,7 @@ fn queue_ok<'a>(
 }
 
 // The same of all queues.
-pub fn in_order<'a>(
+fn in_order<'a>(
     numbers: &'a [u32; SLOTS],
     dones: &'a [u8; SLOTS],
     marks: &'a [u8; SLOTS],
@@ -266,7 +271,7 @@ pub fn in_order<'a>(
 }
 
 // How many slots hold a number.
-pub fn numbered(numbers: &[u32; SLOTS]) -> u32
+fn numbered(numbers: &[u32; SLOTS]) -> u32
     ensures { λ r. ⌜ r ≡ numbered (nth (now (numbers .entry))) slotCount ⌝ }
 {
     let mut n = 0;
@@ -280,28 +285,115 @@ pub fn numbered(numbers: &[u32; SLOTS]) -> u32
     n
 }
 
+// Whether the gathered fields, the queue places, the classes' lengths and the map keep their rules, after `top` confirmations; and "the count of
+// confirmations equals the count of commits plus the confirmed requests queued".
+fn agree<'a>(
+    ids: &'a [u32; SLOTS],
+    classes: &'a [u8; SLOTS],
+    numbers: &'a [u32; SLOTS],
+    dones: &'a [u8; SLOTS],
+    marks: &'a [u8; SLOTS],
+    queue: &'a [u8; PLACES],
+    lens: &'a [u8; CLASSES],
+    low: u64,
+    high: u64,
+    top: u32,
+    commits: u32,
+) -> bool
+    requires { ⌜ Long (now ids) (now classes) (now queue) (now lens) ⌝ }
+    requires { ⌜ Classed (nth (now ids)) (nth (now classes)) × Unnumbered (nth (now ids)) (nth (now numbers)) ⌝ }
+    ensures { λ r. ⌜ Decides r (LaidOut (nth (now (ids .entry))) (nth (now (classes .entry))) (nth (now (numbers .entry))) (nth (now (dones .entry))) (nth (now (marks .entry))) (now (queue .entry)) (now (lens .entry)) low high top commits) ⌝ }
+{
+    if !lens_short(lens) {
+        return false;
+    }
+    if !tails_zero(queue, lens) {
+        return false;
+    }
+    if !map_agrees(ids, low, high) {
+        return false;
+    }
+    if !each_once(ids, classes, queue, lens, low, high) {
+        return false;
+    }
+    if !pairs_differ(ids, numbers) {
+        return false;
+    }
+    if !in_order(numbers, dones, marks, queue, lens, top) {
+        return false;
+    }
+    let n = numbered(numbers);
+    (commits as u64) + (n as u64) == top as u64
+}
+
+// What the walk over the queues came to: whether the rules are kept, and the heads.
+pub struct Laid {
+    pub ok: bool,
+    pub heads: [u8; CLASSES],
+}
+
+// Whether these rules are kept, and the slot at the head of each class, 128 where its queue is empty.
+pub fn laid_out<'a>(
+    ids: &'a [u32; SLOTS],
+    classes: &'a [u8; SLOTS],
+    numbers: &'a [u32; SLOTS],
+    dones: &'a [u8; SLOTS],
+    marks: &'a [u8; SLOTS],
+    queue: [u8; PLACES],
+    lens: [u8; CLASSES],
+    low: u64,
+    high: u64,
+    top: u32,
+    commits: u32,
+) -> Laid
+    requires { ⌜ (length (now ids) ≡ slotCount) × (length (now classes) ≡ slotCount) × Classed (nth (now ids)) (nth (now classes)) × Unnumbered (nth (now ids)) (nth (now numbers)) ⌝ }
+    ensures { λ r. ⌜ Decides (r .ok) (LaidOut (nth (now (ids .entry))) (nth (now (classes .entry))) (nth (now (numbers .entry))) (nth (now (dones .entry))) (nth (now (marks .entry))) queue lens low high top commits) × Heads queue lens (r .heads) ⌝ }
+{
+    let ok = agree(
+        ids,
+        classes,
+        numbers,
+        dones,
+        marks,
+        &queue,
+        &lens,
+        low,
+        high,
+        top,
+        commits,
+    );
+    let mut hs = [SLOT_LIMIT; CLASSES];
+    let mut c = 0;
+    while c < CLASSES {
+        if lens[c] != 0 {
+            hs[c] = queue[SLOTS * c];
+        }
+        c += 1;
+    }
+    Laid { ok: ok, heads: hs }
+}
+
 // "The working cells are the committed ones with the head's done operations carried out on them."
 pub fn cells_ok(
     slots: [Slot; SLOTS],
-    queue: [u8; PLACES],
-    lens: [u8; CLASSES],
+    heads: [u8; CLASSES],
     committed: &[u32],
     working: &[u32],
 ) -> bool
     requires { ⌜ (length (now committed) ≡ runSize) × (length (now working) ≡ runSize) ⌝ }
-    requires { ⌜ SlotsOk (arrays slots queue lens 0) × Short lens × Once (arrays slots queue lens 0) ⌝ }
-    ensures { λ r. ⌜ Decides r (CellsOk (arrays slots queue lens 0) (now (committed .entry)) (now (working .entry))) ⌝ }
+    requires { ⌜ HeadsHold slots heads ⌝ }
+    ensures { λ r. ⌜ Decides r (HeadCells slots heads (now (committed .entry)) (now (working .entry))) ⌝ }
 {
     let mut c = 0;
     while c < CLASSES {
         let a = CELLS * c;
         let b = a + CELLS;
-        if lens[c] == 0 {
+        if heads[c] == SLOT_LIMIT {
             if !same_cells(&working[a..b], &committed[a..b]) {
                 return false;
             }
         } else {
-            let i = queue[SLOTS * c] as usize;
+            let i = heads[c] as usize;
             let v = slots[i];
             if !head_ok(v, &committed[a..b], &working[a..b]) {
                 return false;

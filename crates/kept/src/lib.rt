@@ -165,17 +165,17 @@ fn all_match<'a>(
 pub fn kept_ok<'a>(
     ids: &'a [u32; SLOTS],
     numbers: &'a [u32; SLOTS],
-    kept: &'a [u32; KEPT],
+    kept: [u32; KEPT],
     confirmations: u32,
 ) -> bool
-    ensures { λ r. ⌜ Decides r (KeptOk (nth (now (ids .entry))) (nth (now (numbers .entry))) confirmations (now (kept .entry))) ⌝ }
+    ensures { λ r. ⌜ Decides r (KeptOk (nth (now (ids .entry))) (nth (now (numbers .entry))) confirmations kept) ⌝ }
 {
-    if !filled(kept, confirmations) {
+    if !filled(&kept, confirmations) {
         return false;
     }
-    let marked = mark(kept);
+    let marked = mark(&kept);
     if !marked.differ {
         return false;
     }
-    all_match(ids, numbers, kept, &marked.marks, confirmations)
+    all_match(ids, numbers, &kept, &marked.marks, confirmations)
 }

@@ -1,5 +1,5 @@
 -- The struct as the theory has it, what its answers are in document 01, and what the private steps promise. Assumes nothing.
-use Prim.Native.Nat.{ℕ, _<_, _≤_}
+use Prim.Native.Nat.{ℕ, _+_, _<_, _≤_}
 use mathlib.Core.Path.{_≡_}
 use mathlib.Core.Bool.{true}
 use mathlib.Core.List.{List}
@@ -10,7 +10,7 @@ use Rattle.usedmap.specs.Flags.{usedOf}
 use Rattle.slots.specs.declared.Slot.{Slot}
 use Rattle.slots.specs.Meaning.{slotAt}
 use Rattle.store.specs.Store.{Store}
-use Rattle.store.specs.Meaning.{places}
+use Rattle.store.specs.Meaning.{places, lenOf}
 use Rattle.store.specs.Sound.{times, Laid}
 use Rattle.store.specs.Steps.{placed, headSlot}
 use Rattle.store.specs.Calls.{State, RightCells, SoundState, Called}
@@ -52,6 +52,11 @@ pub record Door (x : State) (no : ℕ) : Type 0 where
   pub open-to : no ≡ 0 → RightCells x × SoundState x
   pub shut : (no ≡ 0 → ⊥) → (k : Call) → Called x k x (K.refused no)
 
+-- what a call is judged by before it acts: any number but 0 is what it is refused with; with 0 it may act
+pub record Judged (x : State) (k : Call) (may : Type 0) (no : ℕ) : Type 0 where
+  pub act : no ≡ 0 → may
+  pub refuse : (no ≡ 0 → ⊥) → Called x k x (K.refused no)
+
 -- the slot of a queued id, or 128
 pub record SlotOf (slots : List Slot) (id i : ℕ) : Type 0 where
   pub within : i ≤ 128
@@ -62,6 +67,14 @@ pub record SlotOf (slots : List Slot) (id i : ℕ) : Type 0 where
 pub record Placed (s : Site) (i : ℕ) (v : Slot) (r : Site) : Type 0 where
   pub is : store r ≡ placed (store s) (v .class) i v (r .low) (r .high)
   pub used : usedOf (r .low) (r .high) ≡ set (usedOf (s .low) (s .high)) i true
+
+-- class c has a head that is not executed
+pub record MayWork (x : State) (c : ℕ) : Type 0 where
+  pub right : RightCells x
+  pub sound : SoundState x
+  pub class : c < 16
+  pub some : 0 < lenOf (x .site) c
+  pub unfinished : slotAt (x .site .slots) (headSlot (x .site) c) .done ≡ slotAt (x .site .slots) (headSlot (x .site) c) .count → ⊥
 
 -- slot i stands in class c's queue
 pub record InQueue (s : Store) (c i : ℕ) : Type 0 where
@@ -77,6 +90,13 @@ pub record Confirmable (x : State) (i : ℕ) : Type 0 where
   pub used : 0 < slotAt (x .site .slots) i .id
   pub waits : slotAt (x .site .slots) i .number ≡ 0
   pub more : x .site .confirmations < 4294967295
+
+-- the request id may be confirmed under a number, in slot i of class c
+pub record MayConfirm (x : State) (id number i c : ℕ) : Type 0 where
+  pub ready : Confirmable x i
+  pub is : slotAt (x .site .slots) i .id ≡ id
+  pub next : number ≡ x .site .confirmations + 1
+  pub class : c ≡ slotAt (x .site .slots) i .class
 
 -- the request in slot i is the executed head of its class
 abbrev pub HeadDone : Store → ℕ → Type 0

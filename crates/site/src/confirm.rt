@@ -6,13 +6,22 @@ ghost use Rattle.slots.specs.Meaning.{slotAt};
 ghost use Rattle.store.specs.Sound.{Laid};
 ghost use Rattle.store.specs.Steps.{PutBack, PlaceOf, FirstWaiting, Forward, numberedStore};
 ghost use Rattle.store.specs.Meaning.{lenOf};
-ghost use Rattle.store.specs.Calls.{RightCells, SoundState, Did, Called};
-ghost use Rattle.site.specs.Held.{store, stateOf, answerOf, Confirmable, HeadDone, InQueue};
+ghost use Rattle.store.specs.Calls.{RightCells, Did, Called};
+ghost use Rattle.plain.specs.Decides.{Decides};
+ghost use Rattle.site.specs.Held.{store, stateOf, answerOf, Judged, MayConfirm, Confirmable, HeadDone, InQueue};
 use crate::Answer;
 use crate::Reply;
 use crate::SLOTS;
 use crate::Site;
 use kept::KEPT;
+use slots::Slot;
+
+// What came of judging a confirmation: the number that refuses it, or 0 and where its request is.
+struct Found {
+    no: u8,
+    slot: usize,
+    class: usize,
+}
 
 impl Site {
     // The place in class c's queue at which slot i stands.
@@ -87,15 +96,41 @@ impl Site {
         self
     }
 
-    // Confirms the request in slot i, which waits and is no executed head.
-    fn confirm_later(mut self, committed: &[u32], working: &mut [u32], i: usize) -> Reply
+    // Slot i.
+    fn slot(self, i: usize) -> Slot
+        requires { ⌜ i < 128 ⌝ }
+        ensures { λ r. ⌜ r ≡ slotAt (self .slots) i ⌝ }
+    {
+        self.slots[i]
+    }
+
+    // Whether slot i is the executed head of class c.
+    fn head_done(self, c: usize, i: usize) -> bool
+        requires { ⌜ (i < 128) × (c < 16) × (c ≡ slotAt (self .slots) i .class) ⌝ }
+        ensures { λ r. ⌜ Decides r (HeadDone (store self) i) ⌝ }
+    {
+        if self.queue[SLOTS * c] as usize != i {
+            return false;
+        }
+        let v = self.slots[i];
+        v.done == v.count
+    }
+
+    // Confirms the request in slot i, which waits and is no executed head: it moves forward from one place to another.
+    fn confirm_later(
+        mut self,
+        committed: &[u32],
+        working: &mut [u32],
+        i: usize,
+        from: usize,
+        to: usize,
+    ) -> Reply
         requires { ⌜ Confirmable (stateOf self (now committed) (now working)) i × (HeadDone (store self) i → ⊥) ⌝ }
+        requires { ⌜ PlaceOf (store self) (slotAt (self .slots) i .class) i from × FirstWaiting (store self) (slotAt (self .slots) i .class) to ⌝ }
         ensures { λ r. ⌜ Did (stateOf self (now (committed .entry)) (now (working .entry))) (confirm (slotAt (self .slots) i .id) (self .confirmations + 1)) (stateOf (r .site) (now (committed .entry)) (now (working .exit))) (answerOf (r .answer)) ⌝ }
     {
         let v = self.slots[i];
         let c = v.class as usize;
-        let from = self.place_of(c, i);
-        let to = self.first_waiting(c);
         let first = self.queue[SLOTS * c] as usize;
         let head = self.slots[first];
         if first != i {
@@ -130,66 +165,60 @@ impl Site {
         requires { ⌜ Confirmable (stateOf self (now committed) (now working)) i × HeadDone (store self) i ⌝ }
         ensures { λ r. ⌜ Did (stateOf self (now (committed .entry)) (now (working .entry))) (confirm (slotAt (self .slots) i .id) (self .confirmations + 1)) (stateOf (r .site) (now (committed .exit)) (now (working .entry))) (answerOf (r .answer)) ⌝ }
     {
-        let v = self.slots[i];
-        let c = v.class as usize;
-        self = self.numbered(i);
-        let n = self.confirmations;
+        let n = self.confirmations + 1;
+        self.confirmations = n;
+        let mut head = self.slots[i];
+        head.number = n;
+        self.slots[i] = head;
+        self.kept[(n as usize) % KEPT] = head.id;
+        let c = head.class as usize;
         self = self.commit(committed, working, c);
         Reply {
             site: self,
             answer: Answer::Committed {
-                id: v.id,
+                id: head.id,
                 number: n,
-                mark: v.mark,
+                mark: head.mark,
                 slot: (i % 256) as u8,
             },
         }
     }
 
-    // Confirm on a sound site.
-    fn confirm_sound(
-        mut self,
-        committed: &mut [u32],
-        working: &mut [u32],
-        id: u64,
-        number: u64,
-    ) -> Reply
-        requires { ⌜ RightCells (stateOf self (now committed) (now working)) × SoundState (stateOf self (now committed) (now working)) ⌝ }
-        ensures { λ r. ⌜ Did (stateOf self (now (committed .entry)) (now (working .entry))) (confirm id number) (stateOf (r .site) (now (committed .exit)) (now (working .exit))) (answerOf (r .answer)) ⌝ }
+    // What refuses a confirmation: 1, 2, 6, 7, 8 or 9; or 0, with the request's slot and class.
+    fn judge_confirm(self, committed: &[u32], working: &[u32], id: u64, number: u64) -> Found
+        ensures { λ r. ⌜ Judged (stateOf self (now (committed .entry)) (now (working .entry))) (confirm id number) (MayConfirm (stateOf self (now (committed .entry)) (now (working .entry))) id number (r .slot) (r .class)) (r .no) ⌝ }
     {
+        let mut f = Found {
+            no: 0,
+            slot: 0,
+            class: 0,
+        };
+        let no = self.door(committed, working);
+        if no != 0 {
+            f.no = no;
+            return f;
+        }
         if self.confirmations == u32::MAX {
-            return Reply {
-                site: self,
-                answer: Answer::Refused(6),
-            };
+            f.no = 6;
+            return f;
         }
         if number != (self.confirmations as u64) + 1 {
-            return Reply {
-                site: self,
-                answer: Answer::Refused(7),
-            };
+            f.no = 7;
+            return f;
         }
         let i = self.slot_of(id);
         if SLOTS <= i {
-            return Reply {
-                site: self,
-                answer: Answer::Refused(8),
-            };
+            f.no = 8;
+            return f;
         }
-        let v = self.slots[i];
+        let v = self.slot(i);
         if v.number != 0 {
-            return Reply {
-                site: self,
-                answer: Answer::Refused(9),
-            };
+            f.no = 9;
+            return f;
         }
-        let c = v.class as usize;
-        if self.queue[SLOTS * c] as usize == i {
-            if v.done == v.count {
-                return self.confirm_now(committed, &*working, i);
-            }
-        }
-        self.confirm_later(&*committed, working, i)
+        f.slot = i;
+        f.class = v.class as usize;
+        f
     }
 
     // Confirms a queued id under the next number; answers the commit, or W and the id put back; or refuses with 1, 2, 6, 7, 8 or 9.
@@ -202,13 +231,20 @@ impl Site {
     ) -> Reply
         ensures { λ r. ⌜ Called (stateOf self (now (committed .entry)) (now (working .entry))) (confirm id number) (stateOf (r .site) (now (committed .exit)) (now (working .exit))) (answerOf (r .answer)) ⌝ }
     {
-        let no = self.door(&*committed, &*working);
-        if no != 0 {
+        let found = self.judge_confirm(&*committed, &*working, id, number);
+        if found.no != 0 {
             return Reply {
                 site: self,
-                answer: Answer::Refused(no),
+                answer: Answer::Refused(found.no),
             };
         }
-        self.confirm_sound(committed, working, id, number)
+        let i = found.slot;
+        let c = found.class;
+        if self.head_done(c, i) {
+            return self.confirm_now(committed, &*working, i);
+        }
+        let from = self.place_of(c, i);
+        let to = self.first_waiting(c);
+        self.confirm_later(&*committed, working, i, from, to)
     }
 }

@@ -14,14 +14,9 @@ mod work;
 use cells::RUN;
 use cells::clear;
 use checks::cells_ok;
-use checks::each_once;
-use checks::gather;
-use checks::in_order;
-use checks::lens_short;
-use checks::map_agrees;
-use checks::numbered;
-use checks::pairs_differ;
-use checks::tails_zero;
+use checks::gather_owners;
+use checks::gather_stages;
+use checks::laid_out;
 use kept::KEPT;
 use kept::kept_ok;
 use slots::Slot;
@@ -133,54 +128,35 @@ impl Site {
         ensures { λ r. ⌜ Decides r (Sound (store self) (now (committed .entry)) (now (working .entry))) ⌝ }
     {
         let slots = self.slots;
-        let f = gather(slots);
-        if !f.ok {
+        let o = gather_owners(slots);
+        if !o.ok {
             return false;
         }
-        if !lens_short(&self.lens) {
-            return false;
-        }
-        if !tails_zero(&self.queue, &self.lens) {
-            return false;
-        }
-        if !map_agrees(&f.ids, self.low, self.high) {
-            return false;
-        }
-        if !each_once(
-            &f.ids,
-            &f.classes,
-            &self.queue,
-            &self.lens,
-            self.low,
-            self.high,
-        ) {
-            return false;
-        }
-        if !pairs_differ(&f.ids, &f.numbers) {
-            return false;
-        }
-        if !in_order(
-            &f.numbers,
-            &f.dones,
-            &f.marks,
-            &self.queue,
-            &self.lens,
-            self.confirmations,
-        ) {
-            return false;
-        }
-        if self.confirmations < self.commits {
-            return false;
-        }
-        if self.confirmations - self.commits != numbered(&f.numbers) {
+        let g = gather_stages(slots);
+        let kept = self.kept;
+        if !kept_ok(&o.ids, &g.numbers, kept, self.confirmations) {
             return false;
         }
         let queue = self.queue;
         let lens = self.lens;
-        if !cells_ok(slots, queue, lens, committed, working) {
+        let laid = laid_out(
+            &o.ids,
+            &o.classes,
+            &g.numbers,
+            &g.dones,
+            &g.marks,
+            queue,
+            lens,
+            self.low,
+            self.high,
+            self.confirmations,
+            self.commits,
+        );
+        if !laid.ok {
             return false;
         }
-        kept_ok(&f.ids, &f.numbers, &self.kept, self.confirmations)
+        let heads = laid.heads;
+        cells_ok(slots, heads, committed, working)
     }
 
     // The refusal that every call begins with: 1 for wrong cells, 2 for an unsound site, 0 for neither.

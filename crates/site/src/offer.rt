@@ -59,8 +59,7 @@ impl Site {
                 answer: Answer::Refused(4),
             };
         }
-        let kept = self.kept;
-        if among(&kept, KEPT, id) {
+        if among(&self.kept, KEPT, id) {
             return Reply {
                 site: self,
                 answer: Answer::Refused(14),

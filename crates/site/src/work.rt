@@ -1,9 +1,9 @@
 // Work: the head of a class does its next operation, and commits when it has done its last and is confirmed.
 ghost use mathlib.Core.Path.{_≡_};
 ghost use Rattle.plain.specs.Site.{work};
-ghost use Rattle.store.specs.Steps.{Workable, Advanced, Commitable, CommitDone};
-ghost use Rattle.store.specs.Calls.{RightCells, SoundState, Did, Called};
-ghost use Rattle.site.specs.Held.{store, stateOf, answerOf};
+ghost use Rattle.store.specs.Steps.{Commitable, CommitDone};
+ghost use Rattle.store.specs.Calls.{Did, Called};
+ghost use Rattle.site.specs.Held.{store, stateOf, answerOf, Judged, MayWork};
 use crate::Answer;
 use crate::CLASSES;
 use crate::Reply;
@@ -14,20 +14,6 @@ use slots::steps::step;
 use usedmap::UsedMap;
 
 impl Site {
-    // The head of class c does its next operation.
-    fn advance(mut self, committed: &[u32], working: &mut [u32], c: usize) -> Self
-        requires { ⌜ Workable (store self) (now committed) (now working) c ⌝ }
-        ensures { λ r. ⌜ Advanced (store self) (now (committed .entry)) (now (working .entry)) c (store r) (now (working .exit)) ⌝ }
-    {
-        let i = self.queue[SLOTS * c] as usize;
-        let v = self.slots[i];
-        let a = cells::CELLS * c;
-        let b = a + cells::CELLS;
-        let u = step(v, &committed[a..b], &mut working[a..b]);
-        self.slots[i] = u;
-        self
-    }
-
     // The head of class c commits: its cells, its slot, its place, the count.
     pub(crate) fn commit(mut self, committed: &mut [u32], working: &[u32], c: usize) -> Self
         requires { ⌜ Commitable (store self) (now committed) (now working) c ⌝ }
@@ -51,58 +37,63 @@ impl Site {
         self
     }
 
-    // Work on a sound site.
-    fn work_sound(mut self, committed: &mut [u32], working: &mut [u32], class: u64) -> Reply
-        requires { ⌜ RightCells (stateOf self (now committed) (now working)) × SoundState (stateOf self (now committed) (now working)) ⌝ }
-        ensures { λ r. ⌜ Did (stateOf self (now (committed .entry)) (now (working .entry))) (work class) (stateOf (r .site) (now (committed .exit)) (now (working .exit))) (answerOf (r .answer)) ⌝ }
+    // What refuses a work call for a class: 1, 2, 10 or 11; or 0.
+    fn judge_work(self, committed: &[u32], working: &[u32], class: u64) -> u8
+        ensures { λ r. ⌜ Judged (stateOf self (now (committed .entry)) (now (working .entry))) (work class) (MayWork (stateOf self (now (committed .entry)) (now (working .entry))) class) r ⌝ }
     {
+        let no = self.door(committed, working);
+        if no != 0 {
+            return no;
+        }
         if CLASSES <= class {
-            return Reply {
-                site: self,
-                answer: Answer::Refused(10),
-            };
+            return 10;
         }
         let c = class as usize;
         if self.lens[c] == 0 {
-            return Reply {
-                site: self,
-                answer: Answer::Refused(11),
-            };
+            return 11;
         }
+        let i = self.queue[SLOTS * c] as usize;
+        let v = self.slots[i];
+        if v.done == v.count {
+            return 11;
+        }
+        0
+    }
+
+    // The head of class c does its next operation, and commits if that was its last and it is confirmed.
+    fn work_head(mut self, committed: &mut [u32], working: &mut [u32], c: usize) -> Reply
+        requires { ⌜ MayWork (stateOf self (now committed) (now working)) c ⌝ }
+        ensures { λ r. ⌜ Did (stateOf self (now (committed .entry)) (now (working .entry))) (work c) (stateOf (r .site) (now (committed .exit)) (now (working .exit))) (answerOf (r .answer)) ⌝ }
+    {
         let s = self.queue[SLOTS * c];
         let i = s as usize;
         let v = self.slots[i];
-        if v.done == v.count {
-            return Reply {
-                site: self,
-                answer: Answer::Refused(11),
-            };
-        }
-        self = self.advance(&*committed, working, c);
-        let done = v.done + 1;
-        if done < v.count {
+        let a = cells::CELLS * c;
+        let b = a + cells::CELLS;
+        let u = step(v, &committed[a..b], &mut working[a..b]);
+        self.slots[i] = u;
+        if u.done < u.count {
             return Reply {
                 site: self,
                 answer: Answer::Stepped {
-                    id: v.id,
-                    done: done,
+                    id: u.id,
+                    done: u.done,
                 },
             };
         }
-        if v.number == 0 {
+        if u.number == 0 {
             return Reply {
                 site: self,
-                answer: Answer::Executed { id: v.id },
+                answer: Answer::Executed { id: u.id },
             };
         }
-        let mark = self.slots[i].mark;
         self = self.commit(committed, &*working, c);
         Reply {
             site: self,
             answer: Answer::Committed {
-                id: v.id,
-                number: v.number,
-                mark: mark,
+                id: u.id,
+                number: u.number,
+                mark: u.mark,
                 slot: s,
             },
         }
@@ -112,13 +103,13 @@ impl Site {
     pub fn work(mut self, committed: &mut [u32], working: &mut [u32], class: u64) -> Reply
         ensures { λ r. ⌜ Called (stateOf self (now (committed .entry)) (now (working .entry))) (work class) (stateOf (r .site) (now (committed .exit)) (now (working .exit))) (answerOf (r .answer)) ⌝ }
     {
-        let no = self.door(&*committed, &*working);
+        let no = self.judge_work(&*committed, &*working, class);
         if no != 0 {
             return Reply {
                 site: self,
                 answer: Answer::Refused(no),
             };
         }
-        self.work_sound(committed, working, class)
+        self.work_head(committed, working, class as usize)
     }
 }

@@ -1,5 +1,6 @@
 // The slot: one booking request with how far it has come, and its rules.
 ghost use mathlib.Core.Path.{_≡_};
+ghost use mathlib.Core.Logic.{_⊎_};
 ghost use Rattle.plain.specs.Decides.{Decides};
 ghost use Rattle.slots.specs.Meaning.{freeSlot};
 ghost use Rattle.slots.specs.Rules.{OpsOk, OpsZero, Holds};
@@ -112,6 +113,16 @@ pub fn is_zero(v: Slot) -> bool
     let none = (v.id == 0) & (v.class == 0) & (v.count == 0);
     let untouched = (v.number == 0) & (v.done == 0) & (v.mark == 0);
     none & untouched & ops_zero(v)
+}
+
+// Whether a slot is free and all zero, or holds a valid record.
+pub fn slot_ok(v: Slot) -> bool
+    ensures { λ r. ⌜ Decides r ((v ≡ freeSlot) ⊎ Holds v) ⌝ }
+{
+    if v.id != 0 {
+        return holds(v);
+    }
+    is_zero(v)
 }
 
 // Whether a request with this number, done operations and mark may stand directly behind one with the number `before`.

@@ -17,8 +17,9 @@ use Rattle.slots.specs.Meaning.{isUsed, noSlot, slotAt}
 use Rattle.usedmap.specs.Flags.{usedOf}
 use Rattle.usedmap.proofs.Flags.{used-length}
 use Rattle.store.specs.Store.{Shaped, Store}
-use Rattle.store.specs.Sound.{Once}
-use Rattle.store.specs.Checks.{Classed, Long, MapOf, OnceIn, arrays, nth}
+use Rattle.store.specs.Sound.{Once, Short}
+use Rattle.store.specs.Checks.{Classed, InRange, Long, MapOf, OnceIn, arrays, nth}
+use Rattle.store.proofs.Flat.{in-range}
 use Rattle.store.proofs.Once.{Flagged, HasClass}
 
 -- a slot of this class, used where its id is not 0
@@ -113,9 +114,13 @@ module _ {ids classes queue lens : List ℕ} (lg : Long ids classes queue lens) 
       ∙ sym (used-is i ∙ ap (λ (x : ℕ). not (eqb x 0)) (List·getD-eq-default ids 0 (omega (arith, lg .ids-long)))))
 
   -- the rule over the lists
+  same : (c i : ℕ) → _≡_ {A = ℕ} (cond (isUsed (slotAt (bare ids classes) i) && eqb (slotAt (bare ids classes) i .class) c) 1 0)
+      (cond (not (eqb (nth ids i) 0) && eqb (nth classes i) c) 1 0)
+  same c i = rw (used-is i, class-is i)
+
   pub bare-once : {b : Bool} → Decides b (Once bareSite) → Decides b (OnceIn (nth ids) (nth classes) queue lens)
   bare-once = decides-as (λ h c i l. h c i l ∙ same c i) (λ h c i l. h c i l ∙ sym (same c i))
-    where
-      same : (c i : ℕ) → _≡_ {A = ℕ} (cond (isUsed (slotAt (bare ids classes) i) && eqb (slotAt (bare ids classes) i .class) c) 1 0)
-          (cond (not (eqb (nth ids i) 0) && eqb (nth classes i) c) 1 0)
-      same c i = rw (used-is i, class-is i)
+
+  -- a place that counts names a slot
+  pub bare-range : Short lens → OnceIn (nth ids) (nth classes) queue lens → InRange queue lens
+  bare-range short h = in-range bareSite bare-shaped short (λ c i l. h c i l ∙ sym (same c i))

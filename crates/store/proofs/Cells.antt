@@ -1,18 +1,25 @@
 -- A class's cells, as they are lent to the checks. Assumes nothing.
-use Prim.Native.Nat.{ℕ, _+_, _*_, _-_, _<_}
+use Prim.Native.Nat.{ℕ, _+_, _*_, _-_, _<_, _≤_}
 use native.Mathlib.Omega.{arith}
-use mathlib.Core.Path.{_≡_, sym, subst}
+use mathlib.Core.Path.{_≡_, sym, subst, _∙_}
 use mathlib.Core.Bool.{Bool}
 use mathlib.Core.List.{List}
-use lib.ListN.{length, getD, take, drop, length-drop}
-use lib.Seq.{length-take-le}
+use lib.ListN.{length, take, drop, set, replicate, length-drop, length-set, length-replicate, getD-replicate}
+use lib.Seq.{length-take-le, getD-set-same, getD-set-other}
+use borrow.Author.Count.{below-none, below-more}
+use lib.Dec.{eqb}
+use borrow.Author.Tests.{eqb-true, eqb-false, eq-eqb, ne-eqb}
 use Rattle.plain.specs.Decides.{Decides}
+use Rattle.plain.proofs.Tests.{by-test}
+use Rattle.plain.proofs.Deciding.{decides-as}
 use Rattle.plain.specs.Queue.{Entry}
 use Rattle.slots.specs.Meaning.{slotAt}
 use Rattle.slots.specs.Steps.{HeadOk}
-use Rattle.store.proofs.Flat.{empty, headed}
+use Rattle.slots.specs.declared.Slot.{Slot}
+use Rattle.store.proofs.Flat.{empty, headed, head-small, head-holds}
+use Rattle.store.specs.Checks.{CellsAt, CellsOk, HeadCells, Heads, HeadsHold, headOf, nth}
 use Rattle.store.specs.Meaning.{cellsOf, lenOf, queueOf}
-use Rattle.store.specs.Sound.{Cells, Short}
+use Rattle.store.specs.Sound.{Cells, Once, Short, SlotsOk}
 use Rattle.store.specs.Store.{Shaped, Store}
 
 -- class c's part of a run, from a to b
@@ -25,11 +32,86 @@ lent-is run c = let e : 64 * c + 64 - 64 * c ≡ 64 = omega arith in rw e
 pub lent-long : (run : List ℕ) (c : ℕ) → length run ≡ 1024 → c < 16 → length (lent run c) ≡ 64
 lent-long run c n l = rw lent-is (length-take-le 64 (drop (64 * c) run) (omega (arith, length-drop (64 * c) run)))
 
-module _ (s : Store) (w : Shaped s) (short : Short (s .lens)) (c : ℕ) (l : c < 16) (base wrk : List ℕ) (b : Bool) where
-  pub cells-empty : lenOf s c ≡ 0 → Decides b (lent wrk c ≡ lent base c) → Decides b (Cells (queueOf s c) (cellsOf base c) (cellsOf wrk c))
-  cells-empty z d = rw (empty s w short c l z) (rw (lent-is wrk c, lent-is base c) at d)
+-- the heads of the first c classes, in a list that has 128 for the others
+pub record HeadsTo (queue lens heads : List ℕ) (c : ℕ) : Type 0 where
+  pub long : length heads ≡ 16
+  pub found : (k : ℕ) → k < c → nth heads k ≡ headOf queue lens k
+  pub rest : (k : ℕ) → k < 16 → c ≤ k → nth heads k ≡ 128
 
-  pub cells-headed : 0 < lenOf s c → HeadOk b (slotAt (s .slots) (getD (s .queue) (128 * c) 0)) (lent base c) (lent wrk c) → Decides b (Cells (queueOf s c) (cellsOf base c) (cellsOf wrk c))
-  cells-headed k d =
-      subst (λ (q : List Entry). Decides b (Cells q (cellsOf base c) (cellsOf wrk c))) (sym (headed s w short c l k))
-      (rw (lent-is wrk c, lent-is base c) at (d (getD (s .queue) (128 * c) 0)))
+module _ (queue lens : List ℕ) where
+  pub heads-none : HeadsTo queue lens (replicate 16 128) 0
+  heads-none = record { long = length-replicate {A = ℕ} 16 128; found = below-none _; rest = λ k l _. getD-replicate 16 k 128 0 l }
+
+  module _ (heads : List ℕ) (c : ℕ) (l : c < 16) (h : HeadsTo queue lens heads c) where
+    pub heads-past : nth lens c ≡ 0 → HeadsTo queue lens heads (c + 1)
+    heads-past z = record {
+      long = h .long;
+      found = below-more (λ k. nth heads k ≡ headOf queue lens k) c (h .found) (rw (eq-eqb (nth lens c) 0 z) (h .rest c l (omega arith)));
+      rest = λ k m n. h .rest k m (omega arith);
+    }
+
+    pub heads-more : (nth lens c ≡ 0 → ⊥) → HeadsTo queue lens (set heads c (nth queue (128 * c))) (c + 1)
+    heads-more n = record {
+      long = length-set heads c (nth queue (128 * c)) ∙ h .long;
+      found = below-more (λ k. nth (set heads c (nth queue (128 * c))) k ≡ headOf queue lens k) c
+          (λ k m. getD-set-other heads c k (nth queue (128 * c)) 0 (λ e. omega arith) ∙ h .found k m)
+          (rw (ne-eqb (nth lens c) 0 n) (getD-set-same heads c (nth queue (128 * c)) 0 (omega (arith, h .long))));
+      rest = λ k m o. getD-set-other heads c k (nth queue (128 * c)) 0 (λ e. omega arith) ∙ h .rest k m (omega arith);
+    }
+
+-- the rule of one class, as the check decides it: where its queue is empty, and where it has a head
+module _ (slots : List Slot) (head c : ℕ) (base wrk : List ℕ) (b : Bool) where
+  pub at-empty : head ≡ 128 → Decides b (lent wrk c ≡ lent base c) → Decides b (CellsAt slots head (cellsOf base c) (cellsOf wrk c))
+  at-empty e d =
+      decides-as (λ h. record { empty = λ _. h; headed = λ n. absurd (n e) }) (λ h. h .empty e) (rw (lent-is wrk c, lent-is base c) at d)
+
+  pub at-head : (head ≡ 128 → ⊥) → HeadOk b (slotAt slots head) (lent base c) (lent wrk c) → Decides b (CellsAt slots head (cellsOf base c) (cellsOf wrk c))
+  at-head n d =
+      decides-as (λ h. record { empty = λ e. absurd (n e); headed = λ _. h }) (λ h. h .headed n) (rw (lent-is wrk c, lent-is base c) at (d head))
+
+module _ (s : Store) (w : Shaped s) (ok : SlotsOk s) (short : Short (s .lens)) (once : Once s) (heads : List ℕ) (h : Heads (s .queue) (s .lens) heads) where
+  none-there : (c : ℕ) → c < 16 → lenOf s c ≡ 0 → nth heads c ≡ 128
+  none-there c l z = h c l ∙ rw (eq-eqb (lenOf s c) 0 z)
+
+  one-there : (c : ℕ) → c < 16 → 0 < lenOf s c → nth heads c ≡ nth (s .queue) (128 * c)
+  one-there c l k = h c l ∙ rw (ne-eqb (lenOf s c) 0 (λ e. omega arith))
+
+  -- what stands as head is a slot that holds a valid record
+  pub heads-hold : HeadsHold (s .slots) heads
+  heads-hold c l n = by-test (eqb (lenOf s c) 0)
+      (λ t. absurd (n (none-there c l (eqb-true (lenOf s c) 0 t))))
+      (λ f. let ne = eqb-false (lenOf s c) 0 f in
+      let k : 0 < lenOf s c = omega arith in
+      rw (one-there c l k) (head-small s w short once c l k, head-holds s w short ok once c l k))
+
+  module _ (base wrk : List ℕ) where
+    abbrev By : ℕ → Type 0
+    By c = CellsAt (s .slots) (nth heads c) (cellsOf base c) (cellsOf wrk c)
+
+    abbrev Of : ℕ → Type 0
+    Of c = Cells (queueOf s c) (cellsOf base c) (cellsOf wrk c)
+
+    of-head : (c : ℕ) → c < 16 → By c → Of c
+    of-head c l r = by-test (eqb (lenOf s c) 0)
+        (λ t. let z = eqb-true (lenOf s c) 0 t in rw (empty s w short c l z) (r .empty (none-there c l z)))
+        (λ f. let ne = eqb-false (lenOf s c) 0 f in
+        let k : 0 < lenOf s c = omega arith in
+        let e = one-there c l k in
+        subst (λ (q : List Entry). Cells q (cellsOf base c) (cellsOf wrk c)) (sym (headed s w short c l k))
+        (rw e at (r .headed (λ z. omega (arith, head-small s w short once c l k)))))
+
+    by-head : (c : ℕ) → c < 16 → Of c → By c
+    by-head c l r = by-test (eqb (lenOf s c) 0)
+        (λ t. let z = eqb-true (lenOf s c) 0 t in
+        record { empty = λ _. rw (empty s w short c l z) at r; headed = λ n. absurd (n (none-there c l z)) })
+        (λ f. let ne = eqb-false (lenOf s c) 0 f in
+        let k : 0 < lenOf s c = omega arith in
+        let e = one-there c l k in
+        record {
+          empty = λ z. absurd (omega (arith, head-small s w short once c l k));
+          headed = λ _. rw e (subst (λ (q : List Entry). Cells q (cellsOf base c) (cellsOf wrk c)) (headed s w short c l k) r);
+        })
+
+    -- the rule by heads is the rule by queues
+    pub cells-is : {b : Bool} → Decides b (HeadCells (s .slots) heads base wrk) → Decides b (CellsOk s base wrk)
+    cells-is = decides-as (λ r c l. of-head c l (r c l)) (λ r c l. by-head c l (r c l))

@@ -1,27 +1,24 @@
--- The fields of the slots, gathered into lists: the gathering, and that each rule over the lists is the rule over the slots. Assumes nothing.
+-- The fields of the slots, gathered into lists: the gathering, and that the rules over the lists are those over the slots. Assumes nothing.
 use Prim.Native.Nat.{ℕ, _+_, _<_, _≤_}
 use native.Mathlib.Omega.{arith}
 use mathlib.Core.Path.{_≡_, refl, sym, ap, _∙_, subst}
 use mathlib.Core.Logic.{_⊎_, inl, inr}
-use mathlib.Core.Bool.{Bool, true, false, not}
-use mathlib.Core.List.{List, map}
-use lib.Dec.{eqb, ltb}
-use lib.ListN.{length, getD, set, replicate, length-set, length-replicate, List·getD-eq-default}
+use mathlib.Core.Bool.{Bool, not}
+use mathlib.Core.List.{List}
+use lib.Dec.{ltb}
+use lib.ListN.{length, set, replicate, length-set, length-replicate, List·getD-eq-default}
 use lib.Seq.{getD-set-same, getD-set-other}
 use borrow.Author.Count.{below-none, below-more}
 use borrow.Author.Tests.{ltb-true, ltb-false, ne-eqb}
 use Rattle.plain.specs.Decides.{Decides}
 use Rattle.plain.proofs.Tests.{by-test}
-use Rattle.plain.proofs.Deciding.{decides-as}
 use Rattle.slots.specs.declared.Slot.{Slot}
-use Rattle.slots.specs.Meaning.{freeSlot, isUsed, noSlot, slotAt}
+use Rattle.slots.specs.Meaning.{freeSlot, noSlot, slotAt}
 use Rattle.slots.specs.Rules.{Holds}
-use Rattle.usedmap.specs.Flags.{usedOf}
 use Rattle.store.specs.Store.{Shaped, Store}
-use Rattle.store.specs.Sound.{Once, SlotsOk}
-use Rattle.store.specs.Checks.{Classed, Differ, Gathered, KeptOk, Long, MapOf, OnceIn, PlacesIn, PlacesOk, Unnumbered}
-use Rattle.store.specs.Checks.{classesOf, idsOf, nth, numbered, numbersOf}
-use Rattle.store.proofs.Agree.{agree-all, agree-at}
+use Rattle.store.specs.Sound.{SlotsOk}
+use Rattle.store.specs.Checks.{Owned, Staged, Classed, Gathered, KeptOk, LaidIn, LaidOut, Unnumbered}
+use Rattle.store.specs.Checks.{classesOf, donesOf, idsOf, marksOf, nth, numbersOf}
 use Rattle.store.proofs.Canonical.{has-id}
 use Rattle.store.proofs.Once.{class-of}
 
@@ -51,44 +48,54 @@ module _ (l : List Slot) (field : Slot → ℕ) where
           (λ f. let b = ltb-false k 128 f in
           List·getD-eq-default xs 0 (omega (arith, h .0)) ∙ sym (ap field (List·getD-eq-default l noSlot (omega arith)) ∙ z))
 
--- all five fields of the first i slots
-pub record ListsTo (l : List Slot) (ids classes numbers dones marks : List ℕ) (i : ℕ) : Type 0 where
+-- ids and classes of the first i slots
+pub record OwnedTo (l : List Slot) (ids classes : List ℕ) (i : ℕ) : Type 0 where
   pub id : GatheredTo l (λ v. v .id) ids i
   pub class : GatheredTo l (λ v. v .class) classes i
+
+pub owned-none : (l : List Slot) → OwnedTo l (replicate 128 0) (replicate 128 0) 0
+owned-none l = record { id = none-gathered l (λ v. v .id); class = none-gathered l (λ v. v .class) }
+
+module _ (l : List Slot) (ids classes : List ℕ) (i : ℕ) (h : OwnedTo l ids classes i) where
+  pub owned-more : i < 128 → OwnedTo l (set ids i (slotAt l i .id)) (set classes i (slotAt l i .class)) (i + 1)
+  owned-more m = record { id = one-gathered l (λ v. v .id) ids i m (h .id); class = one-gathered l (λ v. v .class) classes i m (h .class) }
+
+  pub owned-all : length l ≡ 128 → 128 ≤ i → Owned l ids classes
+  owned-all n m = record {
+    id = all-gathered l (λ v. v .id) ids i n refl m (h .id);
+    class = all-gathered l (λ v. v .class) classes i n refl m (h .class);
+    long = (h .id .0, h .class .0);
+  }
+
+-- numbers, done operations and marks of the first i slots
+pub record StagedTo (l : List Slot) (numbers dones marks : List ℕ) (i : ℕ) : Type 0 where
   pub number : GatheredTo l (λ v. v .number) numbers i
   pub done : GatheredTo l (λ v. v .done) dones i
   pub mark : GatheredTo l (λ v. v .mark) marks i
 
-pub lists-none : (l : List Slot) → ListsTo l (replicate 128 0) (replicate 128 0) (replicate 128 0) (replicate 128 0) (replicate 128 0) 0
-lists-none l = record {
-  id = none-gathered l (λ v. v .id);
-  class = none-gathered l (λ v. v .class);
-  number = none-gathered l (λ v. v .number);
-  done = none-gathered l (λ v. v .done);
-  mark = none-gathered l (λ v. v .mark);
-}
+pub staged-none : (l : List Slot) → StagedTo l (replicate 128 0) (replicate 128 0) (replicate 128 0) 0
+staged-none l = record { number = none-gathered l (λ v. v .number); done = none-gathered l (λ v. v .done); mark = none-gathered l (λ v. v .mark) }
 
-module _ (l : List Slot) (ids classes numbers dones marks : List ℕ) (i : ℕ) (h : ListsTo l ids classes numbers dones marks i) where
-  pub lists-more : i < 128
-      → ListsTo l (set ids i (slotAt l i .id)) (set classes i (slotAt l i .class)) (set numbers i (slotAt l i .number)) (set dones i (slotAt l i .done))
-      (set marks i (slotAt l i .mark)) (i + 1)
-  lists-more m = record {
-    id = one-gathered l (λ v. v .id) ids i m (h .id);
-    class = one-gathered l (λ v. v .class) classes i m (h .class);
+module _ (l : List Slot) (numbers dones marks : List ℕ) (i : ℕ) (h : StagedTo l numbers dones marks i) where
+  pub staged-more : i < 128
+      → StagedTo l (set numbers i (slotAt l i .number)) (set dones i (slotAt l i .done)) (set marks i (slotAt l i .mark)) (i + 1)
+  staged-more m = record {
     number = one-gathered l (λ v. v .number) numbers i m (h .number);
     done = one-gathered l (λ v. v .done) dones i m (h .done);
     mark = one-gathered l (λ v. v .mark) marks i m (h .mark);
   }
 
-  pub lists-all : length l ≡ 128 → 128 ≤ i → Gathered l ids classes numbers dones marks
-  lists-all n m = record {
-    id = all-gathered l (λ v. v .id) ids i n refl m (h .id);
-    class = all-gathered l (λ v. v .class) classes i n refl m (h .class);
+  pub staged-all : length l ≡ 128 → 128 ≤ i → Staged l numbers dones marks
+  staged-all n m = record {
     number = all-gathered l (λ v. v .number) numbers i n refl m (h .number);
     done = all-gathered l (λ v. v .done) dones i n refl m (h .done);
     mark = all-gathered l (λ v. v .mark) marks i n refl m (h .mark);
-    long = (h .id .0, h .class .0);
   }
+
+-- both
+pub gathered : {l : List Slot} {ids classes numbers dones marks : List ℕ} → Owned l ids classes → Staged l numbers dones marks
+    → Gathered l ids classes numbers dones marks
+gathered o g = (o, g)
 
 -- a free slot has no number
 unnumbered-of : (s : Store) → length (s .slots) ≡ 128 → SlotsOk s → Unnumbered (idsOf (s .slots)) (numbersOf (s .slots))
@@ -103,48 +110,34 @@ unnumbered-of s n ok i z = by-test (ltb i 128)
 classed-of : (s : Store) → length (s .slots) ≡ 128 → SlotsOk s → Classed (idsOf (s .slots)) (classesOf (s .slots))
 classed-of s n ok i p = class-of s n ok i (ap not (ne-eqb (slotAt (s .slots) i .id) 0 (λ e. omega arith)))
 
--- each rule over the lists is that over the slots
-module _ (s : Store) (w : Shaped s) {ids classes numbers dones marks : List ℕ} (g : Gathered (s .slots) ids classes numbers dones marks) where
-  pub long : Long ids classes (s .queue) (s .lens)
-  long = record { ids-long = g .long .0; classes-long = g .long .1; queue-long = w .queue; lens-long = w .lens }
+-- a test of the rules of a site, with these for the fields of its slots
+abbrev Laying : Bool → Store → (id class number done mark : ℕ → ℕ) → Type 0
+Laying b s id class number done mark =
+    Decides b (LaidOut id class number done mark (s .queue) (s .lens) (s .low) (s .high) (s .confirmations) (s .commits))
 
+-- the rules over the lists are those over the slots
+module _ (s : Store) (w : Shaped s) {ids classes numbers dones marks : List ℕ} (g : Gathered (s .slots) ids classes numbers dones marks) where
   pub classed : SlotsOk s → Classed (nth ids) (nth classes)
   classed ok =
-      subst (λ (f : ℕ → ℕ). Classed f (nth classes)) (sym (g .id))
-      (subst (Classed (idsOf (s .slots))) (sym (g .class)) (classed-of s (w .slots) ok))
+      subst (λ (f : ℕ → ℕ). Classed f (nth classes)) (sym (g .0 .id))
+      (subst (Classed (idsOf (s .slots))) (sym (g .0 .class)) (classed-of s (w .slots) ok))
 
   pub unnumbered : SlotsOk s → Unnumbered (nth ids) (nth numbers)
   unnumbered ok =
-      subst (λ (f : ℕ → ℕ). Unnumbered f (nth numbers)) (sym (g .id))
-      (subst (Unnumbered (idsOf (s .slots))) (sym (g .number)) (unnumbered-of s (w .slots) ok))
-
-  pub numbered-is : numbered (nth numbers) 128 ≡ numbered (numbersOf (s .slots)) 128
-  numbered-is = ap (λ (f : ℕ → ℕ). numbered f 128) (g .number)
+      subst (λ (f : ℕ → ℕ). Unnumbered f (nth numbers)) (sym (g .0 .id))
+      (subst (Unnumbered (idsOf (s .slots))) (sym (g .1 .number)) (unnumbered-of s (w .slots) ok))
 
   module _ {b : Bool} where
-    pub map-is : Decides b (MapOf (s .low) (s .high) (nth ids)) → Decides b (usedOf (s .low) (s .high) ≡ map isUsed (s .slots))
-    map-is d =
-        decides-as (agree-all (s .low) (s .high) (s .slots) (w .slots)) (λ e k _. agree-at (s .low) (s .high) (s .slots) e k)
-        (subst (λ (f : ℕ → ℕ). Decides b (MapOf (s .low) (s .high) f)) (g .id) d)
-
-    pub once-is : Decides b (OnceIn (nth ids) (nth classes) (s .queue) (s .lens)) → Decides b (Once s)
-    once-is d =
-        subst (λ (f : ℕ → ℕ). Decides b (OnceIn f (classesOf (s .slots)) (s .queue) (s .lens))) (g .id)
-        (subst (λ (f : ℕ → ℕ). Decides b (OnceIn (nth ids) f (s .queue) (s .lens))) (g .class) d)
-
-    pub differ-is : Decides b (Differ (nth ids) (nth numbers)) → Decides b (Differ (idsOf (s .slots)) (numbersOf (s .slots)))
-    differ-is d =
-        subst (λ (f : ℕ → ℕ). Decides b (Differ f (numbersOf (s .slots)))) (g .id)
-        (subst (λ (f : ℕ → ℕ). Decides b (Differ (nth ids) f)) (g .number) d)
-
-    pub places-is : Decides b (PlacesOk (nth numbers) (nth dones) (nth marks) (s .queue) (s .lens) (s .confirmations)) → Decides b (PlacesIn s)
-    places-is d =
-        subst (λ (f : ℕ → ℕ). Decides b (PlacesOk f (λ i. slotAt (s .slots) i .done) (λ i. slotAt (s .slots) i .mark) (s .queue) (s .lens) (s .confirmations))) (g .number)
-        (subst (λ (f : ℕ → ℕ). Decides b (PlacesOk (nth numbers) f (λ i. slotAt (s .slots) i .mark) (s .queue) (s .lens) (s .confirmations))) (g .done)
-        (subst (λ (f : ℕ → ℕ). Decides b (PlacesOk (nth numbers) (nth dones) f (s .queue) (s .lens) (s .confirmations))) (g .mark) d))
+    pub laid-is : Laying b s (nth ids) (nth classes) (nth numbers) (nth dones) (nth marks) → Decides b (LaidIn s)
+    laid-is d =
+        subst (λ (f : ℕ → ℕ). Laying b s f (classesOf (s .slots)) (numbersOf (s .slots)) (donesOf (s .slots)) (marksOf (s .slots))) (g .0 .id)
+        (subst (λ (f : ℕ → ℕ). Laying b s (nth ids) f (numbersOf (s .slots)) (donesOf (s .slots)) (marksOf (s .slots))) (g .0 .class)
+        (subst (λ (f : ℕ → ℕ). Laying b s (nth ids) (nth classes) f (donesOf (s .slots)) (marksOf (s .slots))) (g .1 .number)
+        (subst (λ (f : ℕ → ℕ). Laying b s (nth ids) (nth classes) (nth numbers) f (marksOf (s .slots))) (g .1 .done)
+        (subst (λ (f : ℕ → ℕ). Laying b s (nth ids) (nth classes) (nth numbers) (nth dones) f) (g .1 .mark) d))))
 
     pub kept-is : Decides b (KeptOk (nth ids) (nth numbers) (s .confirmations) (s .kept))
         → Decides b (KeptOk (idsOf (s .slots)) (numbersOf (s .slots)) (s .confirmations) (s .kept))
     kept-is d =
-        subst (λ (f : ℕ → ℕ). Decides b (KeptOk f (numbersOf (s .slots)) (s .confirmations) (s .kept))) (g .id)
-        (subst (λ (f : ℕ → ℕ). Decides b (KeptOk (nth ids) f (s .confirmations) (s .kept))) (g .number) d)
+        subst (λ (f : ℕ → ℕ). Decides b (KeptOk f (numbersOf (s .slots)) (s .confirmations) (s .kept))) (g .0 .id)
+        (subst (λ (f : ℕ → ℕ). Decides b (KeptOk (nth ids) f (s .confirmations) (s .kept))) (g .1 .number) d)

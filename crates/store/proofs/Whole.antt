@@ -4,10 +4,11 @@ use native.Mathlib.Omega.{arith}
 use mathlib.Core.Path.{_≡_}
 use mathlib.Core.List.{List, map}
 use Rattle.slots.specs.Meaning.{isUsed}
+use Rattle.store.proofs.Agree.{agree-all, agree-at}
 use Rattle.store.proofs.Flat.{ordered, past-of, places-of, tails-of}
 use Rattle.store.proofs.KeptIds.{differ-of, apart-of}
 use Rattle.store.proofs.Tally.{queued-confirmed}
-use Rattle.store.specs.Checks.{CellsOk, Differ, KeptOk, PlacesIn, Tails, idsOf, numbered, numbersOf}
+use Rattle.store.specs.Checks.{CellsOk, Differ, KeptOk, LaidIn, PlacesIn, Tails, idsOf, numbered, numbersOf}
 use Rattle.store.specs.Sound.{Laid, Once, Short, SlotsOk, Sound, Unused}
 use Rattle.store.specs.Store.{Shaped, Store}
 use Rattle.usedmap.specs.Flags.{usedOf}
@@ -32,6 +33,13 @@ module _ (s : Store) (w : Shaped s) where
       kept-queued = ids .matching;
     }
 
+    -- the same, of the rules that the check has together
+    pub sound-from : SlotsOk s → LaidIn s → CellsOk s base wrk → KeptOk (idsOf (s .slots)) (numbersOf (s .slots)) (s .confirmations) (s .kept) → Sound s base wrk
+    sound-from ok laid cells ids =
+        sound-of
+        (laid-of ok (laid .short) (laid .tails) (agree-all (s .low) (s .high) (s .slots) (w .slots) (laid .map)) (laid .once) (ids .filled .unused))
+        (laid .differ) (laid .places) (omega (arith, laid .tally)) (omega (arith, laid .tally)) cells ids
+
     module _ (h : Sound s base wrk) where
       pub tails-in : Tails (s .queue) (s .lens)
       tails-in = tails-of s w (h .laid .not-longer-than-128) (h .laid .past-the-end-zero)
@@ -51,3 +59,14 @@ module _ (s : Store) (w : Shaped s) where
 
       pub tally-in : s .confirmations ≡ s .commits + numbered (numbersOf (s .slots)) 128
       tally-in = omega (arith, h .counts-agree, queued-confirmed s w (h .laid .free-or-valid) (h .laid .exactly-once))
+
+      pub laid-in : LaidIn s
+      laid-in = record {
+        short = h .laid .not-longer-than-128;
+        tails = tails-in;
+        map = λ k _. agree-at (s .low) (s .high) (s .slots) (h .laid .map-agrees) k;
+        once = h .laid .exactly-once;
+        differ = differ-in;
+        places = places-in;
+        tally = tally-in;
+      }

@@ -37,7 +37,7 @@ use Rattle.plain.proofs.Sums.{sum-term}
 use Rattle.store.specs.Calls.{Did, RightCells, SoundState, State}
 use Rattle.store.specs.Meaning.{Same, cellsOf, entries, lenOf, places, plain, plainClass, queueOf}
 use Rattle.store.specs.Sound.{Cells, Laid, stands, times}
-use Rattle.store.specs.Steps.{Advanced, CommitDone, Commitable, headSlot, headTried, withSlot}
+use Rattle.store.specs.Steps.{CommitDone, Commitable, headSlot, headTried, withSlot}
 use Rattle.store.specs.Store.{Shaped, Store}
 
 -- a slot in use takes another value of the same record: the site stays laid out, and no queue's places change
@@ -260,40 +260,48 @@ module _ (x : State) (w : Shaped (x .site)) (r : RightCells x) (q : SoundState x
               let m : Same (plain t base′ wrk′) (S.call p k .site) = rw o (same-trans (d .site (entryOf i u)) between) in
               record { cells = (d .cells, n); sound = sound-kept x (record { site = t; committed = base′; working = wrk′ }) k w (d .slots ∙ length-set (s .slots) i u ∙ w .slots) q (d .laid) m; site = m; answer = rw o }
 
-        -- the same, of a site that is equal to that one
-        module _ (t : Store) (wrk′ : List ℕ) (a : Advanced s base wrk c t wrk′) where
-          abbrev here : Store → State
-          here z = record { site = z; committed = x .committed; working = wrk′ }
+        -- the code's way to it: the class's part of the working cells lent and back, and the slot as the operation left it
+        module _ (z : Slot) (after : List ℕ) (n : length after ≡ length (lent wrk c)) (d : StepDone v (lent base c) (lent wrk c) z after) where
+          abbrev wrk′ : List ℕ
+          wrk′ = putMid (64 * c) (64 * c + 64 - 64 * c) wrk after
 
-          pub stepped-as : suc (v .done) < v .count → (n : ℕ) → n ≡ suc (v .done) → Did x k (here t) (K.stepped (v .id) n)
-          stepped-as h n e = rw e (subst (λ (z : Store). Did x k (here z) (K.stepped (v .id) (suc (v .done)))) (sym (a .is)) (work-stepped wrk′ (a .own) (a .others) (a .cells) h))
+          as-lent : 64 * c + 64 - 64 * c ≡ 64
+          as-lent = omega arith
 
-          pub executed-as : v .count ≤ suc (v .done) → v .number ≡ 0 → Did x k (here t) (K.executed (v .id))
-          executed-as h e = subst (λ (z : Store). Did x k (here z) (K.executed (v .id))) (sym (a .is)) (work-executed wrk′ (a .own) (a .others) (a .cells) h e)
+          m : length after ≡ 64
+          m = n ∙ lent-long wrk c (r .1) l
 
-          pub may-commit : 0 < v .number → s .confirmations ≤ 4294967295 → Commitable t base wrk′ c
-          may-commit n m = subst (λ (z : Store). Commitable z base wrk′ c) (sym (a .is))
-              (record { laid = after-laid; class = l; some = has; cells = (r .0, a .cells); count = omega (arith, commits-less n) })
+          is : z ≡ u
+          is = rw as-lent at (d .slot)
 
-          pub committed-as : v .count ≤ suc (v .done) → 0 < v .number → (z : Store) (base′ : List ℕ) → CommitDone t base wrk′ c z base′
-              → Did x k (record { site = z; committed = base′; working = wrk′ }) (K.committed (v .id) (v .number) (slotAt (t .slots) i .mark) i)
-          committed-as h n z base′ d =
-              let e : slotAt (t .slots) i .mark ≡ P.markOf tr =
-              ap (λ (z : Store). slotAt (z .slots) i .mark) (a .is) ∙ ap (λ (y : Slot). y .mark) (at-stored (s .slots) i u (omega (arith, w .slots, small))) in
-              rw e (work-committed wrk′ (a .own) (a .others) (a .cells) h n z base′ (subst (λ (y : Store). CommitDone y base wrk′ c z base′) (a .is) d))
+          right : length wrk′ ≡ 1024
+          right = rw as-lent (same-len-mid (64 * c) 64 wrk after (rw as-lent at n) ∙ r .1)
 
--- the code's way to it: the class's part of the working cells, lent and back
-pub advanced-as : (s : Store) (base wrk : List ℕ) (c : ℕ) → c < 16 → length base ≡ 1024 → length wrk ≡ 1024 → (r : Slot) (after : List ℕ) → length after ≡ length (lent wrk c)
-    → StepDone (slotAt (s .slots) (headSlot s c)) (lent base c) (lent wrk c) r after
-    → Advanced s base wrk c (withSlot s (headSlot s c) r) (putMid (64 * c) (64 * c + 64 - 64 * c) wrk after)
-advanced-as s base wrk c l a b r after n d =
-    let e : 64 * c + 64 - 64 * c ≡ 64 = omega arith in
-    let d′ : StepDone (slotAt (s .slots) (headSlot s c)) (cellsOf base c) (cellsOf wrk c) r after = rw e at d in
-    let m : length after ≡ 64 = n ∙ lent-long wrk c b l in
-    rw e (record {
-      is = ap (withSlot s (headSlot s c)) (d′ .slot);
-      cells = same-len-mid (64 * c) 64 wrk after (rw e at n) ∙ b;
-      own = put-own (64 * c) 64 wrk after (omega arith) m ∙ d′ .cells;
-      others = λ k ne. put-apart (64 * c) 64 wrk after (omega arith) m (64 * k) 64
-          (by-test (ltb k c) (λ t. let y = ltb-true k c t in inl (omega arith)) (λ f. let y = ltb-false k c f in inr (omega arith)));
-    })
+          own : cellsOf wrk′ c ≡ cells
+          own = rw as-lent (put-own (64 * c) 64 wrk after (omega (arith, r .1)) m ∙ (rw as-lent at (d .cells)))
+
+          others : (k : ℕ) → (k ≡ c → ⊥) → cellsOf wrk′ k ≡ cellsOf wrk k
+          others k ne = rw as-lent (put-apart (64 * c) 64 wrk after (omega (arith, r .1)) m (64 * k) 64
+              (by-test (ltb k c) (λ t. let y = ltb-true k c t in inl (omega arith)) (λ f. let y = ltb-false k c f in inr (omega arith))))
+
+          pub stepped-as : z .done < z .count → Did x k (record { site = withSlot s i z; committed = x .committed; working = wrk′ }) (K.stepped (z .id) (z .done))
+          stepped-as =
+              subst (λ (z : Slot). z .done < z .count → Did x k (record { site = withSlot s i z; committed = x .committed; working = wrk′ }) (K.stepped (z .id) (z .done)))
+              (sym is) (work-stepped wrk′ own others right)
+
+          pub executed-as : z .count ≤ z .done → z .number ≡ 0 → Did x k (record { site = withSlot s i z; committed = x .committed; working = wrk′ }) (K.executed (z .id))
+          executed-as =
+              subst (λ (z : Slot). z .count ≤ z .done → z .number ≡ 0 → Did x k (record { site = withSlot s i z; committed = x .committed; working = wrk′ }) (K.executed (z .id)))
+              (sym is) (work-executed wrk′ own others right)
+
+          pub may-commit : 0 < z .number → s .confirmations ≤ 4294967295 → Commitable (withSlot s i z) base wrk′ c
+          may-commit =
+              subst (λ (z : Slot). 0 < z .number → s .confirmations ≤ 4294967295 → Commitable (withSlot s i z) base wrk′ c) (sym is)
+              (λ n m. record { laid = after-laid; class = l; some = has; cells = (r .0, right); count = omega (arith, commits-less n) })
+
+          pub committed-as : z .count ≤ z .done → 0 < z .number → (t : Store) (base′ : List ℕ) → CommitDone (withSlot s i z) base wrk′ c t base′
+              → Did x k (record { site = t; committed = base′; working = wrk′ }) (K.committed (z .id) (z .number) (z .mark) i)
+          committed-as =
+              subst (λ (z : Slot). z .count ≤ z .done → 0 < z .number → (t : Store) (base′ : List ℕ) → CommitDone (withSlot s i z) base wrk′ c t base′
+              → Did x k (record { site = t; committed = base′; working = wrk′ }) (K.committed (z .id) (z .number) (z .mark) i)) (sym is)
+              (work-committed wrk′ own others right)

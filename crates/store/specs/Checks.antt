@@ -9,12 +9,13 @@ use lib.ListN.{getD, length, take, replicate}
 use Rattle.places.specs.Moves.{part}
 use Rattle.plain.specs.Sizes.{classCount, slotCount, keptCount}
 use Rattle.plain.specs.Site.{sum, Recent}
-use Rattle.plain.specs.Sound.{All}
-use Rattle.slots.specs.Meaning.{isUsed, slotAt}
+use Rattle.plain.specs.Sound.{All, Head}
+use Rattle.slots.specs.Meaning.{entryOf, isUsed, slotAt}
+use Rattle.slots.specs.Rules.{Holds}
 use Rattle.slots.specs.Steps.{Follows}
 use Rattle.slots.specs.declared.Slot.{Slot}
 use Rattle.store.specs.Meaning.{cellsOf, lenOf, places, queueOf, under}
-use Rattle.store.specs.Sound.{Apart, Cells, times}
+use Rattle.store.specs.Sound.{Apart, Cells, Short, times}
 use Rattle.store.specs.Store.{Store, placeCount}
 use Rattle.usedmap.specs.Flags.{usedOf}
 
@@ -66,14 +67,19 @@ marksOf l i = slotAt l i .mark
 abbrev pub nth : List ℕ → ℕ → ℕ
 nth l i = getD l i 0
 
--- lists that hold the fields of the slots
-pub record Gathered (l : List Slot) (ids classes numbers dones marks : List ℕ) : Type 0 where
+-- lists that hold the fields of the slots: id and class; how far their requests have come; both
+pub record Owned (l : List Slot) (ids classes : List ℕ) : Type 0 where
   pub id : nth ids ≡ idsOf l
   pub class : nth classes ≡ classesOf l
+  pub long : (length ids ≡ slotCount) × (length classes ≡ slotCount)
+
+pub record Staged (l : List Slot) (numbers dones marks : List ℕ) : Type 0 where
   pub number : nth numbers ≡ numbersOf l
   pub done : nth dones ≡ donesOf l
   pub mark : nth marks ≡ marksOf l
-  pub long : (length ids ≡ slotCount) × (length classes ≡ slotCount)
+
+abbrev pub Gathered : List Slot → (ids classes numbers dones marks : List ℕ) → Type 0
+Gathered l ids classes numbers dones marks = Owned l ids classes × Staged l numbers dones marks
 
 -- the lengths of what the walk over the queues is given
 pub record Long (ids classes queue lens : List ℕ) : Type 0 where
@@ -174,6 +180,40 @@ pub record KeptOk (id number : ℕ → ℕ) (top : ℕ) (kept : List ℕ) : Type
   pub filled : Filled top kept
   pub apart : KeptApart kept
   pub matching : Matching id number top kept
+
+-- the rules of lengths, queue places, map, ids, numbers and counts together
+pub record LaidOut (id class number done mark : ℕ → ℕ) (queue lens : List ℕ) (low high top commits : ℕ) : Type 0 where
+  pub short : Short lens
+  pub tails : Tails queue lens
+  pub map : MapOf low high id
+  pub once : OnceIn id class queue lens
+  pub differ : Differ id number
+  pub places : PlacesOk number done mark queue lens top
+  pub tally : top ≡ commits + numbered number slotCount
+
+abbrev pub LaidIn : Store → Type 0
+LaidIn s =
+    LaidOut (idsOf (s .slots)) (classesOf (s .slots)) (numbersOf (s .slots)) (donesOf (s .slots)) (marksOf (s .slots)) (s .queue) (s .lens)
+    (s .low) (s .high) (s .confirmations) (s .commits)
+
+-- the slot at the head of class c; 128 where its queue is empty
+abbrev pub headOf : (queue lens : List ℕ) → ℕ → ℕ
+headOf queue lens c = cond (eqb (nth lens c) 0) slotCount (nth queue (slotCount * c))
+
+abbrev pub Heads : (queue lens heads : List ℕ) → Type 0
+Heads queue lens heads = (c : ℕ) → c < classCount → nth heads c ≡ headOf queue lens c
+
+-- what stands as head of a class, but 128, is a slot that holds a valid record
+abbrev pub HeadsHold : List Slot → List ℕ → Type 0
+HeadsHold slots heads = (c : ℕ) → c < classCount → (nth heads c ≡ slotCount → ⊥) → (nth heads c < slotCount) × Holds (slotAt slots (nth heads c))
+
+-- a class's cells, by the slot at its head, or 128
+pub record CellsAt (slots : List Slot) (head : ℕ) (base wrk : List ℕ) : Type 0 where
+  pub empty : head ≡ slotCount → wrk ≡ base
+  pub headed : (head ≡ slotCount → ⊥) → Head (entryOf head (slotAt slots head)) base wrk
+
+abbrev pub HeadCells : List Slot → List ℕ → List ℕ → List ℕ → Type 0
+HeadCells slots heads base wrk = (c : ℕ) → c < classCount → CellsAt slots (nth heads c) (cellsOf base c) (cellsOf wrk c)
 
 abbrev pub CellsOk : Store → List ℕ → List ℕ → Type 0
 CellsOk s base wrk = (c : ℕ) → c < 16 → Cells (queueOf s c) (cellsOf base c) (cellsOf wrk c)

@@ -47,25 +47,9 @@ withSlot s i v = record {
 abbrev pub headSlot : Store → ℕ → ℕ
 headSlot s c = getD (s .queue) (128 * c) 0
 
--- class c has a head that may do its next operation
-pub record Workable (s : Store) (base wrk : List ℕ) (c : ℕ) : Type 0 where
-  pub laid : Laid s
-  pub class : c < 16
-  pub some : 0 < lenOf s c
-  pub cells : (length base ≡ 1024) × (length wrk ≡ 1024)
-  pub left : slotAt (s .slots) (headSlot s c) .done < slotAt (s .slots) (headSlot s c) .count
-  pub marked : Marked (slotAt (s .slots) (headSlot s c)) (cellsOf base c) (cellsOf wrk c)
-
--- what that operation comes to
+-- what its next operation comes to
 abbrev pub headTried : Store → List ℕ → ℕ → Ran
 headTried s wrk c = triedBy (slotAt (s .slots) (headSlot s c)) (cellsOf wrk c)
-
--- it is done: in the head's slot, and on the working cells of the class
-pub record Advanced (s : Store) (base wrk : List ℕ) (c : ℕ) (t : Store) (wrk′ : List ℕ) : Type 0 where
-  pub is : t ≡ withSlot s (headSlot s c) (afterStep (slotAt (s .slots) (headSlot s c)) (headTried s wrk c))
-  pub cells : length wrk′ ≡ 1024
-  pub own : cellsOf wrk′ c ≡ leaves (headTried s wrk c) (cellsOf base c)
-  pub others : (d : ℕ) → (d ≡ c → ⊥) → cellsOf wrk′ d ≡ cellsOf wrk d
 
 -- class c has a head that may commit
 pub record Commitable (s : Store) (base wrk : List ℕ) (c : ℕ) : Type 0 where

@@ -9,21 +9,18 @@ use borrow.Author.Needs.{needs}
 use borrow.Author.Tests.{not-true, not-false}
 use Rattle.plain.specs.Sizes.{classCount}
 use Rattle.plain.proofs.Deciding.{decides-true, decides-false}
-use Rattle.store.specs.Meaning.{cellsOf, queueOf}
-use Rattle.store.specs.Sound.{Cells}
-use Rattle.store.specs.Checks.{arrays}
-use Rattle.store.proofs.Flat.{head-small, head-holds}
-use Rattle.store.proofs.Cells.{lent-long, cells-empty, cells-headed}
-use Rattle.checks.proofs.Shape.{shaped}
+use Rattle.store.specs.Meaning.{cellsOf}
+use Rattle.store.specs.Checks.{CellsAt, nth}
+use Rattle.store.proofs.Cells.{lent-long, at-empty, at-head}
 use Rattle.checks.proofs.cells_ok.Statement.{statement}
 use Rattle.checks.proofs.cells_ok.Tie as tie
 
 abbrev Inv-loop : tie.InvT-loop
-Inv-loop committed working slots queue lens c₀ c =
-    (c ≤ classCount) × ((k : ℕ) → k < c → Cells (queueOf (arrays slots queue lens 0) k) (cellsOf committed k) (cellsOf working k))
+Inv-loop committed working slots heads c₀ c =
+    (c ≤ classCount) × ((k : ℕ) → k < c → CellsAt slots (nth heads k) (cellsOf committed k) (cellsOf working k))
 
 abbrev μ-loop : tie.MeasureT-loop
-μ-loop committed working slots queue lens c₀ c = classCount - c
+μ-loop committed working slots heads c₀ c = classCount - c
 
 loop-holds : tie.Need-loop-holds Inv-loop μ-loop
 loop-holds c = (search needs, below-none _)
@@ -31,68 +28,51 @@ loop-holds c = (search needs, below-none _)
 same-cells-requires : tie.Need-same-cells-requires Inv-loop μ-loop
 same-cells-requires c κs =
     let args· = c .before .before .before .before .before .before .before .args in
-    let c· = c .before .before .before .before .loop .c in
-    let long· = c .before .before .before .before .before .before .before .pre .0 in
-    lent-long (args· .working .now) c· (long· .1) (omega arith) ∙ sym (lent-long (args· .committed .now) c· (long· .0) (omega arith))
+    let loop· = c .before .before .before .before .loop in
+    let pre· = c .before .before .before .before .before .before .before .pre in
+    lent-long (args· .working .now) (loop· .c) (pre· .0 .1) (omega arith) ∙ sym (lent-long (args· .committed .now) (loop· .c) (pre· .0 .0) (omega arith))
 
 returns : tie.Need-returns Inv-loop μ-loop
 returns c =
-    let at· = c .before .before .before .before .before .before in
-    let start· = at· .before .before .before in
-    let args· = start· .args in
-    let w· = shaped (args· .t1) (args· .t2) (args· .t3) 0 (start· .good) in
-    let c· = at· .loop .c in
-    let empty· = c .before .before .before .before .if1 .taken in
-    let rule· = cells-empty _ w· (start· .pre .1 .1) c· (omega arith) (args· .committed .now) (args· .working .now) _ empty· in
-    decides-false (λ h. rule· (c .before .same-cells .ensures) .no (not-true _ (c .if2 .taken)) (h c· (omega arith)))
+    let args· = c .before .before .before .before .before .before .before .before .before .args in
+    let loop· = c .before .before .before .before .before .before .loop in
+    let rule = at-empty (args· .t1) (nth (args· .t2) (loop· .c)) (loop· .c) (args· .committed .now) (args· .working .now) _ (c .before .before .before .before .if1 .taken) in
+    decides-false (λ h. rule (c .before .same-cells .ensures) .no (not-true _ (c .if2 .taken)) (h (loop· .c) (omega arith)))
 
 array-copy-out-v : tie.Need-array-copy-out-v Inv-loop μ-loop
-array-copy-out-v c =
-    let start· = c .before .before .before .before .before in
-    let args· = start· .args in
-    let w· = shaped (args· .t1) (args· .t2) (args· .t3) 0 (start· .good) in
-    let pre· = start· .pre .1 in
-    head-small _ w· (pre· .1) (pre· .2) (c .before .before .loop .c) (omega arith) (omega arith)
+array-copy-out-v c = c .before .before .before .before .before .pre .1 (c .before .before .loop .c) (omega arith) (c .if1 .left) .0
 
 mul-v : tie.Need-mul-v Inv-loop μ-loop
 mul-v c = let h = array-copy-out-v c in search needs
 
 head-ok-requires : tie.Need-head-ok-requires Inv-loop μ-loop
 head-ok-requires c κs =
-    let start· = c .before .before .before .before .before .before .before .before in
-    let args· = start· .args in
-    let w· = shaped (args· .t1) (args· .t2) (args· .t3) 0 (start· .good) in
-    let c· = c .before .before .before .before .before .loop .c in
-    let pre· = start· .pre in (
-      lent-long (args· .committed .now) c· (pre· .0 .0) (omega arith),
-      lent-long (args· .working .now) c· (pre· .0 .1) (omega arith),
-      head-holds _ w· (pre· .1 .1) (pre· .1 .0) (pre· .1 .2) c· (omega arith) (omega arith),
+    let args· = c .before .before .before .before .before .before .before .before .args in
+    let loop· = c .before .before .before .before .before .loop in
+    let pre· = c .before .before .before .before .before .before .before .before .pre in (
+      lent-long (args· .committed .now) (loop· .c) (pre· .0 .0) (omega arith),
+      lent-long (args· .working .now) (loop· .c) (pre· .0 .1) (omega arith),
+      pre· .1 (loop· .c) (omega arith) (c .before .before .before .if1 .left) .1,
     )
 
 returns-2 : tie.Need-returns-2 Inv-loop μ-loop
 returns-2 c =
-    let at· = c .before .before .before .before .before .before .before in
-    let start· = at· .before .before .before in
-    let args· = start· .args in
-    let w· = shaped (args· .t1) (args· .t2) (args· .t3) 0 (start· .good) in
-    let c· = at· .loop .c in
-    let rule· = cells-headed _ w· (start· .pre .1 .1) c· (omega arith) (args· .committed .now) (args· .working .now) _ (omega arith) in
-    decides-false (λ h. rule· (c .before .head-ok .ensures) .no (not-true _ (c .if3 .taken)) (h c· (omega arith)))
+    let args· = c .before .before .before .before .before .before .before .before .before .before .args in
+    let loop· = c .before .before .before .before .before .before .before .loop in
+    let rule = at-head (args· .t1) (nth (args· .t2) (loop· .c)) (loop· .c) (args· .committed .now) (args· .working .now) _ (c .before .before .before .before .before .if1 .left) in
+    decides-false (λ h. rule (c .before .head-ok .ensures) .no (not-true _ (c .if3 .taken)) (h (loop· .c) (omega arith)))
 
 loop-again : tie.Need-loop-again Inv-loop μ-loop
 loop-again c =
+    let args· = c .before .before .before .before .before .args in
     let loop· = c .before .before .loop in
-    let start· = c .before .before .before .before .before in
-    let args· = start· .args in
-    let base· = args· .committed .now in
-    let wrk· = args· .working .now in
-    let w· = shaped (args· .t1) (args· .t2) (args· .t3) 0 (start· .good) in
-    let short· = start· .pre .1 .1 in
-    let l : loop· .c < classCount = omega arith in (
+    let head = nth (args· .t2) (loop· .c) in
+    let base = args· .committed .now in
+    let wrk = args· .working .now in (
       search needs,
       below-more _ _ (loop· .inv .1) (⊎-elim
-          (λ t. cells-empty _ w· short· (loop· .c) l base· wrk· _ (t .0 .taken) (t .3 .ensures) .yes (not-false _ (t .4 .left)))
-          (λ t. cells-headed _ w· short· (loop· .c) l base· wrk· _ (omega (arith, t .0 .left)) (t .4 .ensures) .yes (not-false _ (t .5 .left)))
+          (λ t. at-empty (args· .t1) head (loop· .c) base wrk _ (t .0 .taken) (t .3 .ensures) .yes (not-false _ (t .4 .left)))
+          (λ t. at-head (args· .t1) head (loop· .c) base wrk _ (t .0 .left) (t .4 .ensures) .yes (not-false _ (t .5 .left)))
           (c .if1 .came)),
     )
 
@@ -105,7 +85,7 @@ cells-ok-spec =
     (tie.spec
     Inv-loop μ-loop loop-holds (λ c. search needs) (λ c. search needs) (λ c. search needs) (λ c. search needs)
     (λ c. search needs) (λ c. search needs) (λ c. search needs) (λ c. search needs) (λ c. search needs)
-    (λ c. search needs) (λ c. search needs) same-cells-requires returns (λ c. search needs) (λ c. search needs)
-    (λ c. search needs) mul-v array-copy-out-v (λ c. search needs) (λ c. search needs) (λ c. search needs)
-    (λ c. search needs) (λ c. search needs) (λ c. search needs) (λ c. search needs) (λ c. search needs) head-ok-requires
-    returns-2 (λ c. search needs) (λ c. search needs) loop-again returns-3)
+    (λ c. search needs) (λ c. search needs) same-cells-requires returns (λ c. search needs) (λ c. search needs) mul-v
+    array-copy-out-v (λ c. search needs) (λ c. search needs) (λ c. search needs) (λ c. search needs)
+    (λ c. search needs) (λ c. search needs) (λ c. search needs) (λ c. search needs) head-ok-requires returns-2
+    (λ c. search needs) (λ c. search needs) loop-again returns-3)

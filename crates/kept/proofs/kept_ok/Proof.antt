@@ -13,16 +13,16 @@ returns-2 c = decides-false (λ h. c .before .mark .ensures .0 .no (not-true _ (
 
 all-match-requires : tie.Need-all-match-requires
 all-match-requires c κs =
-    let mark· = c .before .before .before .mark in
-    let differ = not-false _ (c .before .before .if2 .left) in
-    (mark· .ensures .1 differ, c .before .before .before .before .before .filled .ensures .yes (not-false _ (c .before .before .before .before .if1 .left)), mark· .ensures .0 .yes differ)
+    let mark· = c .before .before .before .before .mark in
+    let differ = not-false _ (c .before .before .before .if2 .left) in
+    (mark· .ensures .1 differ, c .before .before .before .before .before .before .before .filled .ensures .yes (not-false _ (c .before .before .before .before .before .before .if1 .left)), mark· .ensures .0 .yes differ)
 
 returns-3 : tie.Need-returns-3
 returns-3 c =
     decides-as
     (λ m. record {
-      filled = c .before .before .before .before .before .before .filled .ensures .yes (not-false _ (c .before .before .before .before .before .if1 .left));
-      apart = c .before .before .before .before .mark .ensures .0 .yes (not-false _ (c .before .before .before .if2 .left));
+      filled = c .before .before .before .before .before .before .before .before .filled .ensures .yes (not-false _ (c .before .before .before .before .before .before .before .if1 .left));
+      apart = c .before .before .before .before .before .mark .ensures .0 .yes (not-false _ (c .before .before .before .before .if2 .left));
       matching = m;
     })
     (λ h. h .matching)

@@ -1,2 +1,0 @@
--- What the types of a check's parameters say.
-pub mod Shape
