@@ -24,9 +24,9 @@ static const struct {
 } lines[] = {
     [SHPENDORAK_REFUSED] = {"refused", 1},         [SHPENDORAK_QUEUED] = {"queued", 4},
     [SHPENDORAK_STEPPED] = {"stepped", 2},         [SHPENDORAK_EXECUTED] = {"executed", 1},
-    [SHPENDORAK_COMMITTED] = {"committed", 4},     [SHPENDORAK_WAITING] = {"waiting", 3},
-    [SHPENDORAK_VALUE] = {"value", 1},             [SHPENDORAK_TO_DO] = {"to-do", 1},
-    [SHPENDORAK_UNCONFIRMED] = {"unconfirmed", 0}, [SHPENDORAK_STARTED] = {"started", 0},
+    [SHPENDORAK_COMMITTED] = {"committed", 5},     [SHPENDORAK_WAITING] = {"waiting", 3},
+    [SHPENDORAK_VALUE] = {"value", 1},             [SHPENDORAK_TO_DO] = {"to-do", 2},
+    [SHPENDORAK_UNCONFIRMED] = {"unconfirmed", 1}, [SHPENDORAK_STARTED] = {"started", 0},
     [SHPENDORAK_WRITTEN] = {"written", 1},
 };
 
@@ -137,6 +137,7 @@ int main(void)
     look(&host, 9);
     confirm(&host, 7, 1);  /* but the stock has number 1: the film is put back */
     look(&host, 7);
+    look(&host, 9);        /* and says so: put back once */
     work(&host);           /* the stock commits */
     confirm(&host, 9, 3);  /* 2 is next: refused 7 */
     confirm(&host, 9, 2);

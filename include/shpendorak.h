@@ -53,11 +53,12 @@ enum shpendorak_answer {
     SHPENDORAK_QUEUED = 1,      /* id, class, place in its queue (1 is the head), slot */
     SHPENDORAK_STEPPED = 2,     /* id, operations done */
     SHPENDORAK_EXECUTED = 3,    /* id */
-    SHPENDORAK_COMMITTED = 4,   /* id, number, mark (which operation declined first, or 0), slot */
+    SHPENDORAK_COMMITTED = 4,   /* id, number, mark (which operation declined first, or 0), slot,
+                                 * times put back */
     SHPENDORAK_WAITING = 5,     /* id, W, the id put back or 0 */
     SHPENDORAK_VALUE = 6,       /* the committed cell */
-    SHPENDORAK_TO_DO = 7,       /* W */
-    SHPENDORAK_UNCONFIRMED = 8, /* no numbers */
+    SHPENDORAK_TO_DO = 7,       /* W, times put back */
+    SHPENDORAK_UNCONFIRMED = 8, /* times put back */
     SHPENDORAK_STARTED = 9,     /* no numbers */
     SHPENDORAK_WRITTEN = 10     /* the length of the text or record written */
 };
@@ -98,6 +99,7 @@ typedef struct shpendorak_slot {
     uint32_t number;                        /* its definitive number, 0 while it waits */
     uint8_t done;                           /* how many operations are done */
     uint8_t mark;                           /* which done operation declined first, 1 to 7, or 0 */
+    uint64_t backs;                         /* how often it was put back since its offer */
 } shpendorak_slot;
 
 /* A site. Place p of class c, from 0, stands at 128c + p of the queue. */
@@ -131,9 +133,9 @@ shpendorak_site shpendorak_offer(shpendorak_site site,
 
 /* Confirm, when an id came with its definitive number: an executed head commits. Any other request
  * moves to directly before the first waiting one; a waiting head that is another request is put
- * back and has nothing done.
- * Answers COMMITTED id, number, mark, slot; or WAITING id, W, put-back: the request commits at
- * exactly the W-th work call for its class that is not refused.
+ * back: it has nothing done, and was put back once more.
+ * Answers COMMITTED id, number, mark, slot, times put back; or WAITING id, W, put-back: the request
+ * commits at exactly the W-th work call for its class that is not refused.
  * Refuses WRONG_CELLS, UNSOUND, NUMBERS_USED_UP, WRONG_NUMBER, ID_NOT_QUEUED, CONFIRMED_ALREADY. */
 shpendorak_site shpendorak_confirm(shpendorak_site site,
                                    uint32_t *committed, size_t committed_len,
@@ -144,7 +146,7 @@ shpendorak_site shpendorak_confirm(shpendorak_site site,
 /* Work: the head of a class does its next operation on the working cells. If that was its last, a
  * confirmed head commits: its class's working cells become the committed ones and its slot is free.
  * Answers STEPPED id, done; EXECUTED id, if it was the last of a waiting head; or COMMITTED id,
- * number, mark, slot.
+ * number, mark, slot, times put back.
  * Refuses WRONG_CELLS, UNSOUND, NO_SUCH_CLASS, NOTHING_TO_DO. */
 shpendorak_site shpendorak_work(shpendorak_site site,
                                 uint32_t *committed, size_t committed_len,
@@ -162,7 +164,7 @@ shpendorak_site shpendorak_read(shpendorak_site site,
                                 uint64_t answer[SHPENDORAK_NUMBERS]);
 
 /* Look: how far a queued request has come. The site comes back as it was.
- * Answers TO_DO W, if it is confirmed; or UNCONFIRMED.
+ * Answers TO_DO W, times put back, if it is confirmed; or UNCONFIRMED times put back.
  * Refuses WRONG_CELLS, UNSOUND, ID_NOT_QUEUED. */
 shpendorak_site shpendorak_look(shpendorak_site site,
                                 const uint32_t *committed, size_t committed_len,

@@ -18,17 +18,18 @@ pub enum Answer {
     /// The waiting head did its last operation and waits for its number.
     Executed { id: u32 },
     /// The request committed, and its slot is free; the mark is the place of the first operation
-    /// that declined, 1 to 7, or 0.
-    Committed { id: u32, number: u32, mark: u32, slot: u32 },
+    /// that declined, 1 to 7, or 0; it was put back so often since its offer.
+    Committed { id: u32, number: u32, mark: u32, slot: u32, backs: u64 },
     /// The request is confirmed and commits at the w-th accepted work call for its class; a head
     /// was put back, or none (0).
     Waiting { id: u32, w: u32, put_back: u32 },
     /// The committed cell.
     Value(u32),
-    /// The request is confirmed and needs so many more accepted work calls for its class to commit.
-    ToDo(u32),
-    /// The request is queued and not confirmed.
-    Unconfirmed,
+    /// The request is confirmed and commits at the w-th accepted work call for its class; it was put
+    /// back so often.
+    ToDo { w: u32, backs: u64 },
+    /// The request is queued and not confirmed; it was put back so often.
+    Unconfirmed { backs: u64 },
     /// The site is fresh.
     Started,
 }
@@ -100,27 +101,39 @@ impl Error for Refusal {}
 
 /// The answer or the refusal that six numbers say; panics at numbers that no answer has.
 pub fn answered(numbers: &Numbers) -> Result<Answer, Refusal> {
-    let [what, first, second, third, fourth, _] = numbers.map(|number| {
-        u32::try_from(number).unwrap_or_else(|_| panic!("{number} is in no answer of a site"))
-    });
-    Ok(match u64::from(what) {
-        raw::QUEUED => Answer::Queued { id: first, class: second, place: third, slot: fourth },
-        raw::STEPPED => Answer::Stepped { id: first, done: second },
-        raw::EXECUTED => Answer::Executed { id: first },
-        raw::COMMITTED => {
-            Answer::Committed { id: first, number: second, mark: third, slot: fourth }
-        }
-        raw::WAITING => Answer::Waiting { id: first, w: second, put_back: third },
-        raw::VALUE => Answer::Value(first),
-        raw::TO_DO => Answer::ToDo(first),
-        raw::UNCONFIRMED => Answer::Unconfirmed,
+    let [what, first, second, third, fourth, fifth] = *numbers;
+    Ok(match what {
+        raw::QUEUED => Answer::Queued {
+            id: word(first),
+            class: word(second),
+            place: word(third),
+            slot: word(fourth),
+        },
+        raw::STEPPED => Answer::Stepped { id: word(first), done: word(second) },
+        raw::EXECUTED => Answer::Executed { id: word(first) },
+        raw::COMMITTED => Answer::Committed {
+            id: word(first),
+            number: word(second),
+            mark: word(third),
+            slot: word(fourth),
+            backs: fifth,
+        },
+        raw::WAITING => Answer::Waiting { id: word(first), w: word(second), put_back: word(third) },
+        raw::VALUE => Answer::Value(word(first)),
+        raw::TO_DO => Answer::ToDo { w: word(first), backs: second },
+        raw::UNCONFIRMED => Answer::Unconfirmed { backs: first },
         raw::STARTED => Answer::Started,
         raw::REFUSED => return Err(refusal(first)),
         _ => panic!("an answer of the unknown kind {what}"),
     })
 }
 
+/// A number of an answer that is no count of put-backs: it has 32 bits.
+fn word(number: u64) -> u32 {
+    u32::try_from(number).unwrap_or_else(|_| panic!("{number} is in no answer of a site"))
+}
+
 /// The refusal with a number that the archive gave.
-fn refusal(number: u32) -> Refusal {
-    Refusal::numbered(number.into()).unwrap_or_else(|| panic!("the unknown refusal {number}"))
+fn refusal(number: u64) -> Refusal {
+    Refusal::numbered(number).unwrap_or_else(|| panic!("the unknown refusal {number}"))
 }

@@ -17,7 +17,7 @@
 //! let confirmed = site.confirm(&mut committed, &mut working, 7, 1)?;
 //! assert_eq!(confirmed, Answer::Waiting { id: 7, w: 1, put_back: 0 });
 //! let done = site.work(&mut committed, &mut working, 3)?;
-//! assert_eq!(done, Answer::Committed { id: 7, number: 1, mark: 0, slot: 0 });
+//! assert_eq!(done, Answer::Committed { id: 7, number: 1, mark: 0, slot: 0, backs: 0 });
 //! assert_eq!(site.read(&committed, &working, 3, 0)?, Answer::Value(100));
 //! assert_eq!(site.work(&mut committed, &mut working, 3), Err(Refusal::NothingToDo));
 //! # Ok(())

@@ -38,15 +38,16 @@ pub const QUEUED: u64 = 1;
 pub const STEPPED: u64 = 2;
 /// Executed: id.
 pub const EXECUTED: u64 = 3;
-/// Committed: id, number, mark (the place of the first operation that declined, or 0), slot.
+/// Committed: id, number, mark (the place of the first operation that declined, or 0), slot, times
+/// put back.
 pub const COMMITTED: u64 = 4;
 /// Waiting: id, W, the id put back or 0.
 pub const WAITING: u64 = 5;
 /// Value: the committed cell.
 pub const VALUE: u64 = 6;
-/// A confirmed request looked at: W.
+/// A confirmed request looked at: W, times put back.
 pub const TO_DO: u64 = 7;
-/// An unconfirmed request looked at: no numbers.
+/// An unconfirmed request looked at: times put back.
 pub const UNCONFIRMED: u64 = 8;
 /// A fresh site: no numbers.
 pub const STARTED: u64 = 9;
@@ -88,6 +89,8 @@ pub struct Slot {
     pub done: u8,
     /// The place of the first done operation that declined, 1 to 7, or 0.
     pub mark: u8,
+    /// How often it was put back since its offer.
+    pub backs: u64,
 }
 
 /// A site: plain data that may be stored and brought back; every call looks whether it is sound.

@@ -117,7 +117,8 @@ impl Site {
         answered(&answer)
     }
 
-    /// How many work calls a confirmed request still needs, or that it is unconfirmed.
+    /// How many work calls a confirmed request still needs, or that it is unconfirmed, and how often
+    /// it was put back.
     pub fn look(&self, committed: &[u32], working: &[u32], id: u64) -> Result<Answer, Refusal> {
         let mut answer = NO_ANSWER;
         // SAFETY: every pointer is that of a slice with its length, or of the answer.

@@ -79,18 +79,18 @@ fn each_refusal_comes_from_a_call() {
     assert_eq!(hosted.offer(0, 3), Err(Refusal::BadRecord));
     assert_eq!(hosted.offer(7, 3), Ok(Answer::Queued { id: 7, class: 3, place: 1, slot: 0 }));
     assert_eq!(hosted.offer(7, 4), Err(Refusal::IdQueued));
-    assert_eq!(hosted.look(7), Ok(Answer::Unconfirmed));
+    assert_eq!(hosted.look(7), Ok(Answer::Unconfirmed { backs: 0 }));
     assert_eq!(hosted.look(7 + (1 << 32)), Err(Refusal::IdNotQueued));
     assert_eq!(hosted.confirm(7, 2), Err(Refusal::WrongNumber));
     assert_eq!(hosted.confirm(8, 1), Err(Refusal::IdNotQueued));
     assert_eq!(hosted.confirm(7, 1), Ok(Answer::Waiting { id: 7, w: 1, put_back: 0 }));
     assert_eq!(hosted.confirm(7, 2), Err(Refusal::ConfirmedAlready));
-    assert_eq!(hosted.look(7), Ok(Answer::ToDo(1)));
+    assert_eq!(hosted.look(7), Ok(Answer::ToDo { w: 1, backs: 0 }));
     assert_eq!(hosted.work(16), Err(Refusal::NoSuchClass));
     assert_eq!(hosted.work(3 + 256), Err(Refusal::NoSuchClass));
     assert_eq!(hosted.work(4), Err(Refusal::NothingToDo));
     assert_eq!(hosted.read(3, 64), Err(Refusal::NoSuchCell));
-    let committed = Answer::Committed { id: 7, number: 1, mark: 0, slot: 0 };
+    let committed = Answer::Committed { id: 7, number: 1, mark: 0, slot: 0, backs: 0 };
     assert_eq!(hosted.work(3), Ok(committed));
     assert_eq!(hosted.read(3, 0), Ok(Answer::Value(1)));
     assert_eq!(hosted.offer(7, 4), Err(Refusal::IdKept));
@@ -123,4 +123,43 @@ fn wrong_cells_and_unsound_sites_are_refused_and_left() {
     hosted.site = before;
     assert_eq!(hosted.work(3), Ok(Answer::Executed { id: 7 }));
     assert_eq!(Site::fresh(&mut hosted.committed[1..], &mut []), Err(Refusal::WrongCells));
+}
+
+#[test]
+fn a_request_says_how_often_it_was_put_back() {
+    let mut hosted = Hosted::fresh();
+    for id in [7, 8, 9] {
+        hosted.offer(id, 3).expect("a slot is free");
+    }
+    for (id, number) in [(9, 1), (8, 2)] {
+        let put_back = Answer::Waiting { id, w: 1, put_back: 7 };
+        assert_eq!(hosted.confirm(id.into(), number.into()), Ok(put_back));
+        assert_eq!(hosted.look(7), Ok(Answer::Unconfirmed { backs: number.into() }));
+        let committed = Answer::Committed { id, number, mark: 0, slot: id - 7, backs: 0 };
+        assert_eq!(hosted.work(3), Ok(committed));
+    }
+    assert_eq!(hosted.confirm(7, 3), Ok(Answer::Waiting { id: 7, w: 1, put_back: 0 }));
+    assert_eq!(hosted.look(7), Ok(Answer::ToDo { w: 1, backs: 2 }));
+    let committed = Answer::Committed { id: 7, number: 3, mark: 0, slot: 0, backs: 2 };
+    assert_eq!(hosted.work(3), Ok(committed));
+}
+
+#[test]
+fn times_put_back_may_reach_the_confirmations_and_no_more() {
+    let mut hosted = Hosted::fresh();
+    hosted.offer(7, 3).expect("a slot is free");
+    let mut looked = |confirmations: u32, backs: u64| {
+        (hosted.site.confirmations, hosted.site.commits) = (confirmations, confirmations);
+        let given = 1..=confirmations as usize;
+        let kept = |number| if given.contains(&number) { 1_000 + number as u32 } else { 0 };
+        hosted.site.kept = std::array::from_fn(kept);
+        hosted.site.slots[0].backs = backs;
+        hosted.look(7)
+    };
+    for confirmations in [0, 1, 255] {
+        let backs = u64::from(confirmations);
+        assert_eq!(looked(confirmations, backs), Ok(Answer::Unconfirmed { backs }));
+        assert_eq!(looked(confirmations, backs + 1), Err(Refusal::Unsound));
+        assert_eq!(looked(confirmations, 1 << 32), Err(Refusal::Unsound));
+    }
 }

@@ -1,14 +1,13 @@
 // The pieces of the soundness check: each decides one of document 01's rules, of the slots' fields gathered once, the queue places and the
 // classes' lengths.
 ghost use mathlib.Core.Path.{_≡_};
-ghost use mathlib.Core.List.{[]};
 ghost use Prim.Native.Nat.{_+_, _≤_};
 ghost use lib.ListN.{length};
 ghost use Rattle.plain.specs.Sizes.{slotCount};
 ghost use Rattle.plain.specs.Decides.{Decides};
 ghost use Rattle.store.specs.Store.{runSize, placeCount};
-ghost use Rattle.store.specs.Sound.{SlotsOk, Short};
-ghost use Rattle.store.specs.Checks.{arrays, nth, Owned, Staged, Long, Classed, MapOf, OnceIn, Unnumbered, Differ, ZeroFrom, Tails};
+ghost use Rattle.store.specs.Sound.{Short};
+ghost use Rattle.store.specs.Checks.{nth, SlotsIn, Owned, Staged, Long, Classed, MapOf, OnceIn, Unnumbered, Differ, ZeroFrom, Tails};
 ghost use Rattle.store.specs.Checks.{QueueOk, PlacesOk, Named, InRange, numbered, LaidOut, Heads, HeadsHold, HeadCells};
 use cells::CELLS;
 use cells::CLASSES;
@@ -30,16 +29,16 @@ const LONGEST: u8 = 128;
 // What stands at a queue place is a slot if it is below this.
 const SLOT_LIMIT: u8 = 128;
 
-// The slots' ids and classes; where a slot is neither free nor valid, not ok.
+// The slots' ids and classes; where a slot is neither free nor valid, or was put back too often, not ok.
 pub struct Owners {
     pub ok: bool,
     pub ids: [u32; SLOTS],
     pub classes: [u8; SLOTS],
 }
 
-// "Each slot is free and all zero, or holds a valid record": whether, with their ids and classes.
-pub fn gather_owners(slots: [Slot; SLOTS]) -> Owners
-    ensures { λ r. ⌜ Decides (r .ok) (SlotsOk (arrays slots [] [] 0)) ⌝ }
+// "Each slot is free and all zero, or holds a valid record", and no count of times put back is above `top`: whether, with their ids and classes.
+pub fn gather_owners(slots: [Slot; SLOTS], top: u32) -> Owners
+    ensures { λ r. ⌜ Decides (r .ok) (SlotsIn slots top) ⌝ }
     ensures { λ r. ⌜ Owned slots (r .ids) (r .classes) ⌝ }
 {
     let mut o = Owners {
@@ -50,7 +49,7 @@ pub fn gather_owners(slots: [Slot; SLOTS]) -> Owners
     let mut i = 0;
     while i < SLOTS {
         let v = slots[i];
-        o.ok = o.ok & slot_ok(v);
+        o.ok = o.ok & (slot_ok(v) & (v.backs <= top as u64));
         o.ids[i] = slots[i].id;
         o.classes[i] = slots[i].class;
         i += 1;

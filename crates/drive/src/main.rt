@@ -11,10 +11,10 @@ use line::Line;
 use site::Site;
 use std::num::wrapping_add_u64;
 
-// Events are read in blocks of 500.
-const EVENTS: u64 = 500;
+// Events are read in blocks of 450.
+const EVENTS: u64 = 450;
 
-const BLOCK: usize = 36000;
+const BLOCK: usize = 32400;
 
 // The site after some events, and how many bytes the text has with their lines.
 struct Block {
@@ -24,9 +24,9 @@ struct Block {
 
 // Puts a line into a text behind what stands there, and answers how long the text is then.
 fn append(text: &mut [u8], len: usize, line: Line) -> usize
-    requires { ⌜ len + 128 ≤ length (now text) ⌝ }
-    requires { ⌜ line .len ≤ 128 ⌝ }
-    ensures { λ r. ⌜ r ≤ len + 128 ⌝ }
+    requires { ⌜ len + 144 ≤ length (now text) ⌝ }
+    requires { ⌜ line .len ≤ 144 ⌝ }
+    ensures { λ r. ⌜ r ≤ len + 144 ⌝ }
 {
     let bytes = line.bytes;
     let mut i = 0;
@@ -47,8 +47,8 @@ fn list_event(
     text: &mut [u8],
     len: usize,
 ) -> Block
-    requires { ⌜ len + 128 ≤ length (now text) ⌝ }
-    ensures { λ r. ⌜ r .len ≤ len + 128 ⌝ }
+    requires { ⌜ len + 144 ≤ length (now text) ⌝ }
+    ensures { λ r. ⌜ r .len ≤ len + 144 ⌝ }
 {
     let done = answer_event(site, committed, working, place, event);
     let next = done.site;
@@ -69,7 +69,7 @@ fn list_block(
     input: &[u8],
     text: &mut [u8],
 ) -> Block
-    requires { ⌜ length (now input) ≤ 36000 ⌝ }
+    requires { ⌜ length (now input) ≤ 32400 ⌝ }
     requires { ⌜ length (now text) ≡ 65536 ⌝ }
     ensures { λ r. ⌜ r .len ≤ 65536 ⌝ }
 {

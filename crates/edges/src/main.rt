@@ -29,6 +29,7 @@ fn show(a: Answer) {
             number,
             mark,
             slot,
+            backs,
         } => {
             io::write_all(1, b" committed ");
             io::print_decimal(1, id as u64);
@@ -38,6 +39,8 @@ fn show(a: Answer) {
             io::print_decimal(1, mark as u64);
             io::write_all(1, b" ");
             io::print_decimal(1, slot as u64);
+            io::write_all(1, b" ");
+            io::print_decimal(1, backs);
         }
         Answer::Waiting { id, w, back } => {
             io::write_all(1, b" waiting ");

@@ -86,7 +86,7 @@ pub fn answer_event(
     bytes: &[u8],
 ) -> Done
     ensures { λ r. ⌜ Listed (stateOf site (now (committed .entry)) (now (working .entry))) place (now (bytes .entry)) (stateOf (r .site) (now (committed .exit)) (now (working .exit))) (written (r .line)) ⌝ }
-    ensures { λ r. ⌜ r .line .len ≤ 128 ⌝ }
+    ensures { λ r. ⌜ r .line .len ≤ 144 ⌝ }
 {
     let reply = happen(site, committed, working, bytes);
     let next = reply.site;

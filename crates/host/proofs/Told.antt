@@ -23,10 +23,10 @@ answerAt what n =
     (cond (eqb what 1) (queued (n 1) (n 2) (n 3) (n 4))
     (cond (eqb what 2) (stepped (n 1) (n 2))
     (cond (eqb what 3) (executed (n 1))
-    (cond (eqb what 4) (committed (n 1) (n 2) (n 3) (n 4))
+    (cond (eqb what 4) (committed (n 1) (n 2) (n 3) (n 4) (n 5))
     (cond (eqb what 5) (waiting (n 1) (n 2) (n 3))
     (cond (eqb what 6) (value (n 1))
-    (cond (eqb what 7) (toDo (n 1)) unconfirmed)))))))
+    (cond (eqb what 7) (toDo (n 1) (n 2)) (unconfirmed (n 1)))))))))
 
 abbrev pub heard : List ℕ → Answer
 heard l = answerAt (getD l 0 0) (λ k. getD l k 0)
@@ -36,11 +36,11 @@ nothing-lost (refused reason) = refl
 nothing-lost (queued id class place slot) = refl
 nothing-lost (stepped id done) = refl
 nothing-lost (executed id) = refl
-nothing-lost (committed id number declined slot) = refl
+nothing-lost (committed id number declined slot backs) = refl
 nothing-lost (waiting id w putBack) = refl
 nothing-lost (value cell) = refl
-nothing-lost (toDo w) = refl
-nothing-lost unconfirmed = refl
+nothing-lost (toDo w backs) = refl
+nothing-lost (unconfirmed backs) = refl
 
 pub one-outcome : {x y z : State} {k : Call} {l m : List ℕ} → Shaped (x .site) → Shaped (y .site) → Shaped (z .site)
     → Told x k y l → Told x k z m → (y ≡ z) × (l ≡ m)

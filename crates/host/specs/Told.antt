@@ -14,11 +14,11 @@ told (refused reason) = 0 ∷ reason ∷ 0 ∷ 0 ∷ 0 ∷ 0 ∷ []
 told (queued id class place slot) = 1 ∷ id ∷ class ∷ place ∷ slot ∷ 0 ∷ []
 told (stepped id done) = 2 ∷ id ∷ done ∷ 0 ∷ 0 ∷ 0 ∷ []
 told (executed id) = 3 ∷ id ∷ 0 ∷ 0 ∷ 0 ∷ 0 ∷ []
-told (committed id number declined slot) = 4 ∷ id ∷ number ∷ declined ∷ slot ∷ 0 ∷ []
+told (committed id number declined slot backs) = 4 ∷ id ∷ number ∷ declined ∷ slot ∷ backs ∷ []
 told (waiting id w putBack) = 5 ∷ id ∷ w ∷ putBack ∷ 0 ∷ 0 ∷ []
 told (value cell) = 6 ∷ cell ∷ 0 ∷ 0 ∷ 0 ∷ 0 ∷ []
-told (toDo w) = 7 ∷ w ∷ 0 ∷ 0 ∷ 0 ∷ 0 ∷ []
-told unconfirmed = 8 ∷ 0 ∷ 0 ∷ 0 ∷ 0 ∷ 0 ∷ []
+told (toDo w backs) = 7 ∷ w ∷ backs ∷ 0 ∷ 0 ∷ 0 ∷ []
+told (unconfirmed backs) = 8 ∷ backs ∷ 0 ∷ 0 ∷ 0 ∷ 0 ∷ []
 
 -- fresh has its own: 9 where it started a site, or the refusal
 abbrev pub toldFresh : ℕ → List ℕ

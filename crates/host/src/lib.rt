@@ -67,18 +67,19 @@ fn numbers_of(answer: Answer) -> [u64; NUMBERS]
             number,
             mark,
             slot,
+            backs,
         } => [
             COMMITTED,
             id as u64,
             number as u64,
             mark as u64,
             slot as u64,
-            0,
+            backs,
         ],
         Answer::Waiting { id, w, back } => [WAITING, id as u64, w as u64, back as u64, 0, 0],
         Answer::Value(n) => [VALUE, n as u64, 0, 0, 0, 0],
-        Answer::ToDo(w) => [TO_DO, w as u64, 0, 0, 0, 0],
-        Answer::Unconfirmed => [UNCONFIRMED, 0, 0, 0, 0, 0],
+        Answer::ToDo { w, backs } => [TO_DO, w as u64, backs, 0, 0, 0],
+        Answer::Unconfirmed { backs } => [UNCONFIRMED, backs, 0, 0, 0, 0],
     }
 }
 

@@ -20,7 +20,7 @@ tenth : lineOf 10 (queued 7 3 1 0) ≡ 49 ∷ 48 ∷ 32 ∷ 113 ∷ 117 ∷ 101 
 unfolding lineWith blanked decimal count
 tenth = refl
 
--- 9 unconfirmed
-ninth : lineOf 9 unconfirmed ≡ 57 ∷ 32 ∷ 117 ∷ 110 ∷ 99 ∷ 111 ∷ 110 ∷ 102 ∷ 105 ∷ 114 ∷ 109 ∷ 101 ∷ 100 ∷ 10 ∷ []
+-- 9 unconfirmed 2
+ninth : lineOf 9 (unconfirmed 2) ≡ 57 ∷ 32 ∷ 117 ∷ 110 ∷ 99 ∷ 111 ∷ 110 ∷ 102 ∷ 105 ∷ 114 ∷ 109 ∷ 101 ∷ 100 ∷ 32 ∷ 50 ∷ 10 ∷ []
 unfolding lineWith blanked decimal count
 ninth = refl

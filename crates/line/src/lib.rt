@@ -10,14 +10,14 @@ use site::Answer;
 
 // A line so far: the first len of the bytes.
 pub struct Line {
-    pub bytes: [u8; 128],
+    pub bytes: [u8; 144],
     pub len: usize,
 }
 
 // The line that an answer to the event at a place gives.
 pub fn line_of(place: u64, answer: Answer) -> Line
     ensures { λ r. ⌜ written r ≡ lineOf place (answerOf answer) ⌝ }
-    ensures { λ r. ⌜ r .len ≤ 128 ⌝ }
+    ensures { λ r. ⌜ r .len ≤ 144 ⌝ }
 {
     match answer {
         Answer::Refused(n) => whole(place, b"refused", &[n as u64]),
@@ -38,10 +38,11 @@ pub fn line_of(place: u64, answer: Answer) -> Line
             number,
             mark,
             slot,
+            backs,
         } => whole(
             place,
             b"committed",
-            &[id as u64, number as u64, mark as u64, slot as u64],
+            &[id as u64, number as u64, mark as u64, slot as u64, backs],
         ),
         Answer::Waiting { id, w, back } => whole(
             place,
@@ -49,20 +50,20 @@ pub fn line_of(place: u64, answer: Answer) -> Line
             &[id as u64, w as u64, back as u64],
         ),
         Answer::Value(n) => whole(place, b"value", &[n as u64]),
-        Answer::ToDo(w) => whole(place, b"to-do", &[w as u64]),
-        Answer::Unconfirmed => whole(place, b"unconfirmed", &[]),
+        Answer::ToDo { w, backs } => whole(place, b"to-do", &[w as u64, backs]),
+        Answer::Unconfirmed { backs } => whole(place, b"unconfirmed", &[backs]),
     }
 }
 
-// The line of a place, a word of at most 11 letters, and at most four numbers.
+// The line of a place, a word of at most 11 letters, and at most five numbers.
 fn whole(place: u64, word: &[u8], numbers: &[u64]) -> Line
     requires { ⌜ length (now word) ≤ 11 ⌝ }
-    requires { ⌜ length (now numbers) ≤ 4 ⌝ }
+    requires { ⌜ length (now numbers) ≤ 5 ⌝ }
     ensures { λ r. ⌜ written r ≡ lineWith place (now (word .entry)) (now (numbers .entry)) ⌝ }
-    ensures { λ r. ⌜ r .len ≤ 128 ⌝ }
+    ensures { λ r. ⌜ r .len ≤ 144 ⌝ }
 {
     let empty = Line {
-        bytes: [0; 128],
+        bytes: [0; 144],
         len: 0,
     };
     let first = number(empty, place);
@@ -72,7 +73,7 @@ fn whole(place: u64, word: &[u8], numbers: &[u64]) -> Line
 
 // The line with each number behind it, a blank before each: at most 21 bytes for each.
 fn each(l: Line, numbers: &[u64]) -> Line
-    requires { ⌜ l .len + 21 * length (now numbers) ≤ 128 ⌝ }
+    requires { ⌜ l .len + 21 * length (now numbers) ≤ 144 ⌝ }
     ensures { λ r. ⌜ written r ≡ written l ++ blanked (now (numbers .entry)) ⌝ }
     ensures { λ r. ⌜ r .len ≤ l .len + 21 * length (now (numbers .entry)) ⌝ }
 {
@@ -87,7 +88,7 @@ fn each(l: Line, numbers: &[u64]) -> Line
 
 // The line with a number's decimal digits behind it, at most 20.
 fn number(l: Line, n: u64) -> Line
-    requires { ⌜ l .len + 20 ≤ 128 ⌝ }
+    requires { ⌜ l .len + 20 ≤ 144 ⌝ }
     ensures { λ r. ⌜ written r ≡ written l ++ decimal n ⌝ }
     ensures { λ r. ⌜ r .len ≤ l .len + 20 ⌝ }
 {
@@ -98,7 +99,7 @@ fn number(l: Line, n: u64) -> Line
 
 // The line with a text behind it.
 fn put(l: Line, text: &[u8]) -> Line
-    requires { ⌜ l .len + length (now text) ≤ 128 ⌝ }
+    requires { ⌜ l .len + length (now text) ≤ 144 ⌝ }
     ensures { λ r. ⌜ written r ≡ written l ++ now (text .entry) ⌝ }
     ensures { λ r. ⌜ r .len ≡ l .len + length (now (text .entry)) ⌝ }
 {

@@ -60,7 +60,7 @@ confirm-bounded s w i n =
     d = confirmStep i n (s .class c)
 
     go : accepts s (confirm i n) ≡ true → Confirms i n (s .class c) d → owed i (act s (confirm i n) .site .class c .queue) ≤ mostW → wOf (d .answer) ≤ mostW
-    go a (at-once x b sl en p p′ r z t) u = rw z (omega arith)
+    go a (at-once x b sl bk en p p′ r z t) u = rw z (omega arith)
     go a (later x y back en m e p b z t) u = let v : owed i (d .class .queue) ≤ mostW = rw (eq-eqb c c refl) at u in rw z v
 
 -- the mark that a commit answers
@@ -74,12 +74,12 @@ few-marked c e base n b l =
     at-most (carried w) h = omega arith
     at-most (declined p) h = omega (arith, h .1)
 
-work-marked : (c top : ℕ) (k : Class) → SoundClass c top k → idle (k .queue) ≡ false → (i n m j : ℕ) → workStep k .answer ≡ committed i n m j → m ≤ mostOps
+work-marked : (c top : ℕ) (k : Class) → SoundClass c top k → idle (k .queue) ≡ false → (i n m j b : ℕ) → workStep k .answer ≡ committed i n m j b → m ≤ mostOps
 unfolding workStep
-work-marked c top k s f i n m j = go (k .queue) s f
+work-marked c top k s f i n m j b = go (k .queue) s f
   where
     go : (q : List Item) → SoundClass c top (classWith q (k .committed) (k .working)) → idle q ≡ false
-        → workOn q (k .committed) (k .working) .answer ≡ committed i n m j → m ≤ mostOps
+        → workOn q (k .committed) (k .working) .answer ≡ committed i n m j b → m ≤ mostOps
     go [] s f a = no _ refl f
     go (e ∷ rest) s f a =
         let l = leb-false _ _ f in
@@ -91,12 +91,12 @@ work-marked c top k s f i n m j = go (k .queue) s f
         (λ t. let z : _≡_ {A = ℕ} 0 1 = cc (rw (x, t) at a) in absurd (omega arith)))
         (λ x. let z : _≡_ {A = ℕ} 0 1 = cc (rw x at a) in absurd (omega arith))
 
-confirm-marked : (c top i n : ℕ) (k : Class) → SoundClass c top k → (i′ n′ m j : ℕ) → confirmStep i n k .answer ≡ committed i′ n′ m j → m ≤ mostOps
+confirm-marked : (c top i n : ℕ) (k : Class) → SoundClass c top k → (i′ n′ m j b : ℕ) → confirmStep i n k .answer ≡ committed i′ n′ m j b → m ≤ mostOps
 unfolding confirmStep
-confirm-marked c top i n k s i′ n′ m j = go (k .queue) s
+confirm-marked c top i n k s i′ n′ m j b = go (k .queue) s
   where
     go : (q : List Item) → SoundClass c top (classWith q (k .committed) (k .working))
-        → confirmOn i n q (k .committed) (k .working) .answer ≡ committed i′ n′ m j → m ≤ mostOps
+        → confirmOn i n q (k .committed) (k .working) .answer ≡ committed i′ n′ m j b → m ≤ mostOps
     go [] s a = let z : _≡_ {A = ℕ} 0 1 = cc in absurd (omega arith)
     go (e ∷ rest) s a =
         let h = s .working .0 in
@@ -107,20 +107,20 @@ confirm-marked c top i n k s i′ n′ m j = go (k .queue) s
         (λ x. let z : _≡_ {A = ℕ} 0 1 = cc (rw (y, x) at a) in absurd (omega arith)))
         (λ y. let z : _≡_ {A = ℕ} 0 1 = cc (rw y at a) in absurd (omega arith))
 
-pub mark-bounded : (s : Site) → SoundSite s → (k : Call) (i n m j : ℕ) → call s k .answer ≡ committed i n m j → m ≤ mostOps
+pub mark-bounded : (s : Site) → SoundSite s → (k : Call) (i n m j b : ℕ) → call s k .answer ≡ committed i n m j b → m ≤ mostOps
 unfolding call act offerStep
-mark-bounded s w k i n m j e =
+mark-bounded s w k i n m j b e =
     by-test (accepts s k)
     (λ a. go k a (rw a at e))
     (λ f. let z : _≡_ {A = ℕ} 0 1 = cc (rw f at e) in absurd (omega arith))
   where
-    none : {X : Type 0} (a : Answer) → commitsBy a ≡ 0 → a ≡ committed i n m j → X
+    none : {X : Type 0} (a : Answer) → commitsBy a ≡ 0 → a ≡ committed i n m j b → X
     none a z e = let o : _≡_ {A = ℕ} 0 1 = sym z ∙ ap commitsBy e in absurd (omega arith)
 
-    go : (k : Call) → accepts s k ≡ true → act s k .answer ≡ committed i n m j → m ≤ mostOps
-    go (offer b) a e = none _ refl e
-    go (work c) a e = let f = work-accepted s c a in work-marked c (s .confirmations) (s .class c) (w .each c (f .0)) (f .1) i n m j e
+    go : (k : Call) → accepts s k ≡ true → act s k .answer ≡ committed i n m j b → m ≤ mostOps
+    go (offer r) a e = none _ refl e
+    go (work c) a e = let f = work-accepted s c a in work-marked c (s .confirmations) (s .class c) (w .each c (f .0)) (f .1) i n m j b e
     go (confirm h x) a e =
-        confirm-marked (classOf s h) (s .confirmations) h x (s .class (classOf s h)) (w .each (classOf s h) (confirm-accepted s h x a .known)) i n m j e
+        confirm-marked (classOf s h) (s .confirmations) h x (s .class (classOf s h)) (w .each (classOf s h) (confirm-accepted s h x a .known)) i n m j b e
     go (read c x) a e = none _ refl e
     go (look h) a e = by-test (confirmedAt (entryAt s h)) (λ t. none _ refl (rw t at e)) (λ f. none _ refl (rw f at e))

@@ -1,13 +1,13 @@
--- Document 01, "Both sides of each edge": the cases marked P, and those of the mark, in one table under one statement about the definitions.
--- Assumes nothing.
+-- Document 01, "Both sides of each edge": the cases marked P, those of the mark and of the count of times put back, in one table under
+-- one statement about the definitions. Assumes nothing.
 use Prim.Native.Nat.{ℕ, _-_}
 use mathlib.Core.Path.{_≡_, refl}
 use mathlib.Core.List.{List, [], _∷_, _++_, map}
 use lib.ListN.{length, drop}
 use Rattle.plain.specs.Ops.{Op, put, add, need, move, carry, opOk, valid}
 use Rattle.plain.specs.Record.{requestIn, isRecord, request}
-use Rattle.plain.specs.Steps.{Answer, queued, stepped, executed, committed, waiting, value, offerStep, workStep, confirmStep}
-use Rattle.plain.specs.Site.{Call, work, confirm, read, fresh, call, act, refusal, classOf, isFree, freeSlot, numberQueued, isKept}
+use Rattle.plain.specs.Steps.{Answer, queued, stepped, executed, committed, waiting, value, toDo, unconfirmed, offerStep, workStep, confirmStep}
+use Rattle.plain.specs.Site.{Call, work, confirm, read, look, fresh, call, act, refusal, classOf, isFree, freeSlot, numberQueued, isKept}
 use Rattle.plain.specs.Site.{sum, standing}
 use Rattle.plain.proofs.Written.{fourBytes, opBytes, opsBytes, recordOf, offerOf, answers}
 
@@ -38,51 +38,56 @@ table =
     -- cells 100 and 0, move 60 leaves 40 and 60; the same move again declines
     record {
       calls = run 1 (put 0 100 ∷ []) ++ run 2 (move 0 1 60 ∷ []) ++ (read 0 0 ∷ read 0 1 ∷ []) ++ run 3 (move 0 1 60 ∷ []) ++ (read 0 0 ∷ []);
-      end = committed 2 2 0 0 ∷ value 40 ∷ value 60 ∷ queued 3 0 1 0 ∷ waiting 3 1 0 ∷ committed 3 3 1 0 ∷ value 40 ∷ [];
+      end = committed 2 2 0 0 0 ∷ value 40 ∷ value 60 ∷ queued 3 0 1 0 ∷ waiting 3 1 0 ∷ committed 3 3 1 0 0 ∷ value 40 ∷ [];
     }
     -- move 1 into 4294967295 declines; move 0 does not
     ∷ record {
       calls = run 1 (put 0 5 ∷ put 1 top ∷ []) ++ run 2 (move 0 1 1 ∷ []) ++ run 3 (move 0 1 0 ∷ []);
-      end = committed 2 2 1 0 ∷ queued 3 0 1 0 ∷ waiting 3 1 0 ∷ committed 3 3 0 0 ∷ [];
+      end = committed 2 2 1 0 0 ∷ queued 3 0 1 0 ∷ waiting 3 1 0 ∷ committed 3 3 0 0 0 ∷ [];
     }
     -- add 1 to 4294967295 gives 0
-    ∷ record { calls = run 1 (put 0 top ∷ add 0 1 ∷ []) ++ (read 0 0 ∷ []); end = committed 1 1 0 0 ∷ value 0 ∷ [] }
+    ∷ record { calls = run 1 (put 0 top ∷ add 0 1 ∷ []) ++ (read 0 0 ∷ []); end = committed 1 1 0 0 0 ∷ value 0 ∷ [] }
     -- need 5 passes at 5 and declines at 4; need 0 passes at 0
-    ∷ record { calls = run 1 (put 0 5 ∷ need 0 5 ∷ []); end = committed 1 1 0 0 ∷ [] }
-    ∷ record { calls = run 1 (put 0 4 ∷ need 0 5 ∷ []); end = committed 1 1 2 0 ∷ [] }
-    ∷ record { calls = run 1 (need 0 0 ∷ []); end = committed 1 1 0 0 ∷ [] }
+    ∷ record { calls = run 1 (put 0 5 ∷ need 0 5 ∷ []); end = committed 1 1 0 0 0 ∷ [] }
+    ∷ record { calls = run 1 (put 0 4 ∷ need 0 5 ∷ []); end = committed 1 1 2 0 0 ∷ [] }
+    ∷ record { calls = run 1 (need 0 0 ∷ []); end = committed 1 1 0 0 0 ∷ [] }
     -- put 8 then a declining need leaves the committed cell
-    ∷ record { calls = run 1 (put 0 3 ∷ []) ++ run 2 (put 0 8 ∷ need 0 9 ∷ []) ++ (read 0 0 ∷ []); end = committed 2 2 2 0 ∷ value 3 ∷ [] }
+    ∷ record { calls = run 1 (put 0 3 ∷ []) ++ run 2 (put 0 8 ∷ need 0 9 ∷ []) ++ (read 0 0 ∷ []); end = committed 2 2 2 0 0 ∷ value 3 ∷ [] }
     -- queue confirmed, confirmed, waiting, waiting: confirming the fourth puts it third, nothing put back
     ∷ record {
       calls = req 1 (put 0 1 ∷ []) ∷ req 2 (put 0 2 ∷ []) ∷ req 3 (put 0 3 ∷ []) ∷ req 4 (put 0 4 ∷ []) ∷ confirm 1 1 ∷ confirm 2 2 ∷ confirm 4 3 ∷ work 0 ∷ work 0 ∷ work 0 ∷ work 0 ∷ [];
-      end = waiting 4 3 0 ∷ committed 1 1 0 0 ∷ committed 2 2 0 1 ∷ committed 4 3 0 3 ∷ executed 3 ∷ [];
+      end = waiting 4 3 0 ∷ committed 1 1 0 0 0 ∷ committed 2 2 0 1 0 ∷ committed 4 3 0 3 0 ∷ executed 3 ∷ [];
     }
     -- four waiting, the first executed: confirming the fourth makes it head and puts the first back
     ∷ record {
       calls = req 1 (put 0 1 ∷ []) ∷ req 2 (put 0 2 ∷ []) ∷ req 3 (put 0 3 ∷ []) ∷ req 4 (put 0 4 ∷ []) ∷ work 0 ∷ confirm 4 1 ∷ work 0 ∷ work 0 ∷ [];
-      end = executed 1 ∷ waiting 4 1 1 ∷ committed 4 1 0 3 ∷ executed 1 ∷ [];
+      end = executed 1 ∷ waiting 4 1 1 ∷ committed 4 1 0 3 0 ∷ executed 1 ∷ [];
     }
     -- confirming an active head with 2 of 5 done answers W = 3 and keeps the 2
     ∷ record {
       calls = req 1 (add 0 1 ∷ add 0 1 ∷ add 0 1 ∷ add 0 1 ∷ add 0 1 ∷ []) ∷ work 0 ∷ work 0 ∷ confirm 1 1 ∷ work 0 ∷ work 0 ∷ work 0 ∷ read 0 0 ∷ [];
-      end = waiting 1 3 0 ∷ stepped 1 3 ∷ stepped 1 4 ∷ committed 1 1 0 0 ∷ value 5 ∷ [];
+      end = waiting 1 3 0 ∷ stepped 1 3 ∷ stepped 1 4 ∷ committed 1 1 0 0 0 ∷ value 5 ∷ [];
     }
     -- the mark: the only operation declines; the first of two; the last of seven; the third, and the fifth would too
-    ∷ record { calls = run 1 (need 0 1 ∷ []); end = committed 1 1 1 0 ∷ [] }
-    ∷ record { calls = run 1 (need 0 1 ∷ put 0 1 ∷ []) ++ (read 0 0 ∷ []); end = committed 1 1 1 0 ∷ value 0 ∷ [] }
+    ∷ record { calls = run 1 (need 0 1 ∷ []); end = committed 1 1 1 0 0 ∷ [] }
+    ∷ record { calls = run 1 (need 0 1 ∷ put 0 1 ∷ []) ++ (read 0 0 ∷ []); end = committed 1 1 1 0 0 ∷ value 0 ∷ [] }
     ∷ record {
       calls = run 1 (add 0 1 ∷ add 0 1 ∷ add 0 1 ∷ add 0 1 ∷ add 0 1 ∷ add 0 1 ∷ need 0 7 ∷ []) ++ (read 0 0 ∷ []);
-      end = committed 1 1 7 0 ∷ value 0 ∷ [];
+      end = committed 1 1 7 0 0 ∷ value 0 ∷ [];
     }
     ∷ record {
       calls = run 1 (put 0 4 ∷ []) ++ run 2 (add 0 1 ∷ need 0 5 ∷ move 0 1 6 ∷ add 0 1 ∷ need 0 9 ∷ []) ++ (read 0 0 ∷ []);
-      end = committed 2 2 3 0 ∷ value 4 ∷ [];
+      end = committed 2 2 3 0 0 ∷ value 4 ∷ [];
     }
     -- a request that declined, put back, runs again with no mark
     ∷ record {
       calls = req 1 (need 0 5 ∷ []) ∷ req 2 (put 0 5 ∷ []) ∷ work 0 ∷ confirm 2 1 ∷ work 0 ∷ confirm 1 2 ∷ work 0 ∷ [];
-      end = executed 1 ∷ waiting 2 1 1 ∷ committed 2 1 0 1 ∷ waiting 1 1 0 ∷ committed 1 2 0 0 ∷ [];
+      end = executed 1 ∷ waiting 2 1 1 ∷ committed 2 1 0 1 0 ∷ waiting 1 1 0 ∷ committed 1 2 0 0 1 ∷ [];
+    }
+    -- the count of times put back: one more each time, whatever was done; the same when it is confirmed, moves and commits; none for the others
+    ∷ record {
+      calls = req 1 (put 0 1 ∷ []) ∷ req 2 (put 0 2 ∷ []) ∷ req 3 (put 0 3 ∷ []) ∷ look 1 ∷ work 0 ∷ confirm 2 1 ∷ look 1 ∷ look 2 ∷ work 0 ∷ confirm 3 2 ∷ confirm 1 3 ∷ look 1 ∷ work 0 ∷ work 0 ∷ [];
+      end = unconfirmed 0 ∷ executed 1 ∷ waiting 2 1 1 ∷ unconfirmed 1 ∷ toDo 1 0 ∷ committed 2 1 0 1 0 ∷ waiting 3 1 1 ∷ waiting 1 2 0 ∷ toDo 2 2 ∷ committed 3 2 0 2 0 ∷ committed 1 3 0 0 2 ∷ [];
     }
     ∷ []
 

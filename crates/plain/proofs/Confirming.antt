@@ -71,8 +71,8 @@ entered c top n y x rest base w s r u b f at t = (
 
 -- CONFIRM, on a class's confirmed part: the request x is committed at once, or stands as y at the end of that part
 pub data Confirms (i n : ℕ) (k : Class) (d : Did) : Type 0 where
-  at-once : (x : Item) (b : ℕ) (sl : ℕ) → entryOf i (k .queue) ≡ some x → confirmedPart (k .queue) ≡ []
-      → confirmedPart (d .class .queue) ≡ [] → d .class .committed ≡ runAll (k .committed) (asks x) → d .answer ≡ committed i n b sl
+  at-once : (x : Item) (b sl bk : ℕ) → entryOf i (k .queue) ≡ some x → confirmedPart (k .queue) ≡ []
+      → confirmedPart (d .class .queue) ≡ [] → d .class .committed ≡ runAll (k .committed) (asks x) → d .answer ≡ committed i n b sl bk
       → Turnover k (d .class) (that x) nothing → Confirms i n k d
   later : (x y : Item) (back : ℕ) → entryOf i (k .queue) ≡ some x → Numbered i n x y → y ≡ numbered n x
       → confirmedPart (d .class .queue) ≡ confirmedPart (k .queue) ++ (y ∷ [])
@@ -100,7 +100,7 @@ module _ (c top i n : ℕ) (x : Item) (rest : List Item) (base w : List ℕ) (s 
       (λ e. let z = m .ends in
       rw (y, e) (
         raise c top n (classWith rest w w) (omega arith) (ended c top x rest base w w s),
-        at-once x (z .0) (z .1) is part (none-confirmed rest all) (executed-cells x base w e (s .working .0)) (z .2) (λ f l. omega arith),
+        at-once x (z .0) (z .1) (x .backs) is part (none-confirmed rest all) (executed-cells x base w e (s .working .0)) (z .2) (λ f l. omega arith),
       ))
       (λ e. rw (y, e, moves) (
         record {

@@ -10,7 +10,7 @@ use borrow.Author.Tests.{eqb-true, eqb-false, eq-eqb, lt-ltb}
 use Rattle.plain.specs.Queue.{idOf, idIs, entryOf, owed, confirmedPart}
 use Rattle.plain.specs.Steps.{Class, Did, Answer, waiting, toDo, confirmStep}
 use Rattle.plain.specs.Site.{Site, work, confirm, look, call, act, accepts, refusal, classOf, inClass}
-use Rattle.plain.specs.Site.{confirmedAt, commitOf}
+use Rattle.plain.specs.Site.{confirmedAt, backsAt, entryAt, commitOf}
 use Rattle.plain.specs.Sound.{SoundClass, SoundSite}
 use Rattle.plain.specs.History.{afterFrom, worksFrom}
 use Rattle.plain.specs.Demands.{Commits, wOf, Waits, Demand3}
@@ -27,6 +27,7 @@ ends-commits : (i n : ℕ) (a : Answer) → Ends (idIs i) n a → Commits a i n
 ends-commits i n a e = record {
   declined = e .it .mark;
   slot = e .it .slot;
+  backs = e .it .backs;
   says = e .says ∙ rw (eqb-true (idOf (e .it)) i (e .passes), e .at);
 }
 
@@ -37,36 +38,36 @@ others-not i n a (inr y) c =
     eqb-false (idOf (y .0)) i (y .1) (cc)
 
 -- the request as it stands, and what look answers
-module _ (s : Site) (w : SoundSite s) (c i n v : ℕ) (l : c < 16) (u : Due (s .class c) (idIs i) n v) where
+module _ (s : Site) (w : SoundSite s) (c i n backs v : ℕ) (l : c < 16) (u : Due (s .class c) (idIs i) n backs v) where
   is-there : entryOf i (s .class c .queue) ≡ some (u .it)
   is-there =
       part-first (idIs i) 0 (s .confirmations) (s .class c .queue) (u .before) (u .it) (u .behind) (w .each c l .order) (u .is) (u .first-one) (u .passes) .0
 
-  look-says : call s (look i) .answer ≡ toDo v
+  look-says : call s (look i) .answer ≡ toDo v backs
   unfolding call act refusal
   look-says =
       let r = part-first (idIs i) 0 (s .confirmations) (s .class c .queue) (u .before) (u .it) (u .behind) (w .each c l .order) (u .is) (u .first-one) (u .passes) in
       let cl : classOf s i ≡ c = class-is s i c w l (first-any (idIs i) (idIs i) (s .class c .queue) (u .it) (r .0) (u .passes)) in
-      rw (cl, lt-ltb c 16 l, r .0, r .2, r .1, u .w-is)
+      rw (cl, lt-ltb c 16 l, r .0, r .2, r .1, u .w-is, u .back-is)
 
-waits-turn : (s : Site) → SoundSite s → (c i n W x : ℕ) → c < 16 → Turn (idIs i) n s c W x → Waits s c i n W x
-waits-turn s w c i n W x l t = record {
+waits-turn : (s : Site) → SoundSite s → (c i n backs W x : ℕ) → c < 16 → Turn (idIs i) n backs s c W x → Waits s c i n backs W x
+waits-turn s w c i n backs W x l t = record {
   it = t .due .it;
-  queued = is-there s w c i n (W - x) l (t .due);
+  queued = is-there s w c i n backs (W - x) l (t .due);
   number = t .due .at;
-  says = look-says s w c i n (W - x) l (t .due);
+  says = look-says s w c i n backs (W - x) l (t .due);
   works = t .works;
   commits = λ e. ends-commits i n _ (t .ends e);
   no-sooner = λ m. others-not i n _ (t .others m);
 }
 
 -- The start: an accepted confirmation commits, or the request is due
-abbrev Started : ℕ → ℕ → Did → Type 0
-Started i n d = Commits (d .answer) i n ⊎ ((W : ℕ) × (back : ℕ) × (d .answer ≡ waiting i W back) × Due (d .class) (idIs i) n W)
+abbrev Started : ℕ → ℕ → ℕ → Did → Type 0
+Started i n backs d = Commits (d .answer) i n ⊎ ((W : ℕ) × (back : ℕ) × (d .answer ≡ waiting i W back) × Due (d .class) (idIs i) n backs W)
 
 start : (c top i n : ℕ) (k : Class) (d : Did) → SoundClass c top k → SoundClass c n (d .class) → confirmedAt (entryOf i (k .queue)) ≡ false
-    → Confirms i n k d → Started i n d
-start c top i n k d s s′ f (at-once x b sl en p p′ r a t) = inl (record { declined = b; slot = sl; says = a })
+    → Confirms i n k d → Started i n (backsAt (entryOf i (k .queue))) d
+start c top i n k d s s′ f (at-once x b sl bk en p p′ r a t) = inl (record { declined = b; slot = sl; backs = bk; says = a })
 start c top i n k d s s′ f (later x y back en m e p z a t) =
     let no = not-there (idIs i) 0 top (k .queue) (s .order) f in
     let r = part-first (idIs i) 0 n (d .class .queue) (confirmedPart (k .queue)) y [] (s′ .order) p no (m .id) in
@@ -82,13 +83,14 @@ start c top i n k d s s′ f (later x y back en m e p z a t) =
         first-one = no;
         passes = m .id;
         at = m .line-is;
+        back-is = m .backs-same ∙ rw en;
         w-is = sym (r .1);
       },
     )
 
 -- DEMAND 3: on any sound site, so after any history
 pub demand-3 : (s : Site) → SoundSite s → (i n : ℕ) → accepts s (confirm i n) ≡ true
-    → Demand3 (classOf s i) i n (call s (confirm i n))
+    → Demand3 (classOf s i) i n (backsAt (entryAt s i)) (call s (confirm i n))
 unfolding call act
 demand-3 s w i n a = rw a (go (start c (s .confirmations) i n (s .class c) x (w .each c f.known) (b .0) f.waits (b .1)))
   where
@@ -104,17 +106,20 @@ demand-3 s w i n a = rw a (go (start c (s .confirmations) i n (s .class c) x (w 
     b : SoundClass c n (x .class) × Confirms i n (s .class c) x
     b = confirm-both s w i n a
 
+    backs : ℕ
+    backs = backsAt (entryAt s i)
+
     s′ : Site
     s′ = inClass s c (some i) x .site
 
     w′ : SoundSite s′
     w′ = rw a at (call-sound s (confirm i n) w)
 
-    go : Started i n x → Demand3 c i n (inClass s c (some i) x)
+    go : Started i n backs x → Demand3 c i n backs (inClass s c (some i) x)
     go (inl y) = record { at-once = λ z. y; later = λ z. absurd (omega (arith, ap wOf (y .says))) }
     go (inr y) = record {
-      at-once = λ z. absurd (omega (arith, ap wOf (y .2), due-positive (idIs i) n c n (x .class) (y .0) (b .0) (y .3)));
+      at-once = λ z. absurd (omega (arith, ap wOf (y .2), due-positive (idIs i) n backs c n (x .class) (y .0) (b .0) (y .3)));
       later = λ z h m. let e : wOf (x .answer) ≡ y .0 = ap wOf (y .2) in
-          rw e (waits-turn (afterFrom s′ h) (from-sound s′ w′ h) c i n (y .0) (worksFrom s′ c h) f.known
-          (turn (idIs i) (id-lasts i) n s′ w′ c (y .0) f.known (rw (eq-eqb c c refl) (y .3)) h (rw e at m)));
+          rw e (waits-turn (afterFrom s′ h) (from-sound s′ w′ h) c i n backs (y .0) (worksFrom s′ c h) f.known
+          (turn (idIs i) (id-lasts i) n backs s′ w′ c (y .0) f.known (rw (eq-eqb c c refl) (y .3)) h (rw e at m)));
     }

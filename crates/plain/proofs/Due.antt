@@ -23,8 +23,8 @@ abbrev pub costs : List Item → ℕ
 costs [] = 0
 costs (x ∷ q) = left x + costs q
 
--- The first of the confirmed part that passes f stands in line at n, and its end is w work calls away
-pub record Due (k : Class) (f : Item → Bool) (n w : ℕ) : Type 0 where
+-- The first of the confirmed part that passes f stands in line at n, was put back so often, and its end is w work calls away
+pub record Due (k : Class) (f : Item → Bool) (n backs w : ℕ) : Type 0 where
   pub before : List Item
   pub it : Item
   pub behind : List Item
@@ -32,6 +32,7 @@ pub record Due (k : Class) (f : Item → Bool) (n w : ℕ) : Type 0 where
   pub first-one : any f before ≡ false
   pub passes : f it ≡ true
   pub at : line it ≡ n
+  pub back-is : it .backs ≡ backs
   pub w-is : costs before + left it ≡ w
 
 -- An answer that says its end, and one that says nothing of it
@@ -86,9 +87,9 @@ not-there f m top (y ∷ q) (inl o) h =
     (λ t. no _ (follows-confirmed m y (o .0)) (rw t at h))
     (λ g. rw (follows-confirmed m y (o .0), g) (not-there f (line y) top q (o .2) (rw g at h)))
 
-module _ (f : Item → Bool) (n : ℕ) where
+module _ (f : Item → Bool) (n backs : ℕ) where
   -- its end is a work call or more away
-  pub due-positive : (c top : ℕ) (k : Class) (w : ℕ) → SoundClass c top k → Due k f n w → 0 < w
+  pub due-positive : (c top : ℕ) (k : Class) (w : ℕ) → SoundClass c top k → Due k f n backs w → 0 < w
   due-positive c top k w s u = omega (arith, go (k .queue) (s .belong) (s .working) (u .before) (u .is))
     where
       first : (y : Item) (q : List Item) → 0 < left y → (a : List Item) → y ∷ confirmedPart q ≡ a ++ u .it ∷ u .behind → 0 < costs a + left (u .it)
@@ -107,7 +108,7 @@ module _ (f : Item → Bool) (n : ℕ) where
           by-test (isConfirmed y) (λ t. first y q (left-head y _ _ t (w .0)) a (rw t at h)) (λ g. rest q (b .1) (w .1) a (rw g at h))
 
   -- the class can work
-  pub ready : (c top : ℕ) (k : Class) (w : ℕ) → SoundClass c top k → Due k f n w → idle (k .queue) ≡ false
+  pub ready : (c top : ℕ) (k : Class) (w : ℕ) → SoundClass c top k → Due k f n backs w → idle (k .queue) ≡ false
   ready c top k w s u = go (k .queue) (s .order) (s .working) (u .is)
     where
       go : (q : List Item) → InOrder 0 top q → Working q (k .committed) (k .working) → confirmedPart q ≡ u .before ++ u .it ∷ u .behind → idle q ≡ false
@@ -118,7 +119,7 @@ module _ (f : Item → Bool) (n : ℕ) where
 
   -- more behind it, or nothing, leaves it
   more-behind : (k k′ : Class) (w : ℕ) (more : List Item) → confirmedPart (k′ .queue) ≡ confirmedPart (k .queue) ++ more
-      → Due k f n w → Due k′ f n w
+      → Due k f n backs w → Due k′ f n backs w
   more-behind k k′ w more e u = record {
     before = u .before;
     it = u .it;
@@ -127,10 +128,11 @@ module _ (f : Item → Bool) (n : ℕ) where
     first-one = u .first-one;
     passes = u .passes;
     at = u .at;
+    back-is = u .back-is;
     w-is = u .w-is;
   }
 
-  pub same-part : (k k′ : Class) (w : ℕ) → confirmedPart (k′ .queue) ≡ confirmedPart (k .queue) → Due k f n w → Due k′ f n w
+  pub same-part : (k k′ : Class) (w : ℕ) → confirmedPart (k′ .queue) ≡ confirmedPart (k .queue) → Due k f n backs w → Due k′ f n backs w
   same-part k k′ w e u = record {
     before = u .before;
     it = u .it;
@@ -139,23 +141,24 @@ module _ (f : Item → Bool) (n : ℕ) where
     first-one = u .first-one;
     passes = u .passes;
     at = u .at;
+    back-is = u .back-is;
     w-is = u .w-is;
   }
 
-  pub confirm-due : (j m w : ℕ) (k : Class) (d : Did) → Confirms j m k d → Due k f n w → Due (d .class) f n w
-  confirm-due j m w k d (at-once x b sl en p p′ r a t) u = nowhere (u .before) (u .it) (u .behind) (sym (u .is) ∙ p)
+  pub confirm-due : (j m w : ℕ) (k : Class) (d : Did) → Confirms j m k d → Due k f n backs w → Due (d .class) f n backs w
+  confirm-due j m w k d (at-once x b sl bk en p p′ r a t) u = nowhere (u .before) (u .it) (u .behind) (sym (u .is) ∙ p)
   confirm-due j m w k d (later x y back en r e p c a t) u = more-behind k (d .class) w (y ∷ []) p u
 
 -- what an accepted work call makes of it: nearer by 1, and the answer speaks of others; or at 1 its end
-abbrev pub Nearer : Class → (Item → Bool) → ℕ → ℕ → Answer → Type 0
-Nearer k f n w a = (Due k f n w × Others f a) ⊎ ((w ≡ 0) × Ends f n a)
+abbrev pub Nearer : Class → (Item → Bool) → ℕ → ℕ → ℕ → Answer → Type 0
+Nearer k f n backs w a = (Due k f n backs w × Others f a) ⊎ ((w ≡ 0) × Ends f n a)
 
-module _ (f : Item → Bool) (lasts : Lasting f) (n : ℕ) where
-  pub work-due : (w : ℕ) (k : Class) (d : Did) → Works k d → Due k f n (suc w) → Nearer (d .class) f n w (d .answer)
+module _ (f : Item → Bool) (lasts : Lasting f) (n backs : ℕ) where
+  pub work-due : (w : ℕ) (k : Class) (d : Did) → Works k d → Due k f n backs (suc w) → Nearer (d .class) f n backs w (d .answer)
   work-due w k d h u = go h (u .before) (u .is) (u .first-one) (u .w-is)
     where
       go : Works k d → (a : List Item) → confirmedPart (k .queue) ≡ a ++ u .it ∷ u .behind → any f a ≡ false
-          → costs a + left (u .it) ≡ suc w → Nearer (d .class) f n w (d .answer)
+          → costs a + left (u .it) ≡ suc w → Nearer (d .class) f n backs w (d .answer)
       go (unconcerned p p′ c z t) a is nf v = nowhere a (u .it) (u .behind) (sym is ∙ p)
       go (one-done x y rest p p′ al l c z t) [] is nf v =
           let s : x ∷ rest ≡ u .it ∷ u .behind = sym p ∙ is in
@@ -169,6 +172,7 @@ module _ (f : Item → Bool) (lasts : Lasting f) (n : ℕ) where
               first-one = refl;
               passes = al .tests f lasts ∙ ap f hd ∙ u .passes;
               at = al .line-same ∙ ap line hd ∙ u .at;
+              back-is = al .backs-same ∙ rw hd (u .back-is);
               w-is = omega (arith, ap left hd);
             },
             inl z,
@@ -186,6 +190,7 @@ module _ (f : Item → Bool) (lasts : Lasting f) (n : ℕ) where
               first-one = rw (al .tests f lasts, ← hd) nf;
               passes = u .passes;
               at = u .at;
+              back-is = u .back-is;
               w-is = omega (arith, ap left hd);
             },
             inl z,
@@ -215,6 +220,7 @@ module _ (f : Item → Bool) (lasts : Lasting f) (n : ℕ) where
               first-one = or-right (f b) (any f a) nf;
               passes = u .passes;
               at = u .at;
+              back-is = u .back-is;
               w-is = omega (arith, ap left hd);
             },
             inr (y, al .tests f lasts ∙ sym (ap f hd) ∙ or-left (f b) (any f a) nf, z),

@@ -62,6 +62,7 @@ pub record Alike (x y : Item) : Type 0 where
   pub tests : (f : Item → Bool) → Lasting f → f y ≡ f x
   pub asks-same : asks y ≡ asks x
   pub line-same : line y ≡ line x
+  pub backs-same : y .backs ≡ x .backs
 
 -- y is x, which has the id i, with its number n
 pub record Numbered (i n : ℕ) (x y : Item) : Type 0 where
@@ -72,7 +73,8 @@ pub record Numbered (i n : ℕ) (x y : Item) : Type 0 where
   pub belongs : (c : ℕ) → Belongs c x → Belongs c y
   pub untouched : Untouched x → Untouched y
   pub head : (base w : List ℕ) → isExecuted x ≡ false → AtHead x base w → AtHead y base w
-  pub ends : (b : ℕ) × (sl : ℕ) × (ending y ≡ committed i n b sl)
+  pub backs-same : y .backs ≡ x .backs
+  pub ends : (b : ℕ) × (sl : ℕ) × (ending y ≡ committed i n b sl (y .backs))
 
 pub is-numbered : (i n : ℕ) (x : Item) → idIs i x ≡ true → Numbered i n x (numbered n x)
 is-numbered i n e h = record {
@@ -83,6 +85,7 @@ is-numbered i n e h = record {
   belongs = λ c b. b;
   untouched = λ u. u;
   head = λ base w x a. record { within = a .within; unfinished = λ z. leb-false _ _ x; mark = a .mark; cells = a .cells };
+  backs-same = refl;
   ends = (e .mark, e .slot, rw (eqb-true (idOf e) i h));
 }
 

@@ -21,6 +21,7 @@ use Rattle.plain.proofs.Steps.{raise, Turnover, nothing, that, Works, u
 use Rattle.plain.proofs.Confirming.{Confirms, at-once, later}
 use Rattle.plain.proofs.Sites.{not-queued, room, free, number-unused, work-accepted, offer-accepted, Confirmable, confirm-accepted}
 use Rattle.plain.proofs.Accepted.{id-lasts, slot-lasts, number-lasts, confirmed-lasts, turns, work-both, offer-both, confirm-both}
+use Rattle.plain.proofs.Backs.{call-backs}
 use Rattle.plain.proofs.Recent.{Keeping, call-keeping}
 
 -- DIFFERENT: no two requests pass one of a family of lasting tests
@@ -56,7 +57,7 @@ module _ (P : ℕ → Item → Bool) (lasts : (j : ℕ) → Lasting (P j)) (s : 
 
       confirmed : (i n : ℕ) → accepts s (confirm i n) ≡ true → Confirms i n (s .class (classOf s i)) (confirmStep i n (s .class (classOf s i)))
           → Differ P (act s (confirm i n) .site)
-      confirmed i n a (at-once x b sl en p p′ r z t) =
+      confirmed i n a (at-once x b sl bk en p p′ r z t) =
           differ-step (classOf s i) (some i) (confirmStep i n (s .class (classOf s i))) (that x) nothing (confirm-accepted s i n a .known) t (λ j. inl (omega arith))
       confirmed i n a (later x y back en m e p b z t) =
           differ-step (classOf s i) (some i) (confirmStep i n (s .class (classOf s i))) (that x) (that y) (confirm-accepted s i n a .known) t
@@ -177,7 +178,7 @@ module _ (s : Site) (w : SoundSite s) where
       waits x en = let g : isConfirmed x ≡ false = rw en at (f .waits) in rw g
 
       go : Confirms i n (s .class c) d → Rules (inClass s c (some i) d .site)
-      go (at-once x b sl en p p′ r z t) = rules s w c (some i) d (f .known) k (that x) nothing t (omega (arith, ap commitsBy z, waits x en))
+      go (at-once x b sl bk en p p′ r z t) = rules s w c (some i) d (f .known) k (that x) nothing t (omega (arith, ap commitsBy z, waits x en))
       go (later x y back en m e p b z t) =
           let g : that y isConfirmed ≡ 1 = rw (e, follows-confirmed 0 (numbered n x) (omega (arith, f .next))) in
           rules s w c (some i) d (f .known) k (that x) (that y) t (omega (arith, ap commitsBy z, waits x en))
@@ -207,6 +208,7 @@ call-sound s k w =
       ids = call-ids s w k;
       numbers = call-numbers s w k;
       tally = r .tally;
+      backs = call-backs s w k;
       kept-not-zero = m .not-zero;
       kept-differ = m .differ;
       kept-queued = m .queued;
@@ -221,6 +223,7 @@ fresh-sound = record {
   ids = λ j. omega arith;
   numbers = λ j. omega arith;
   tally = refl;
+  backs = λ c l. tt;
   kept-not-zero = λ n r. absurd (omega (arith, r .given, r .within));
   kept-differ = λ m n r q. absurd (omega (arith, r .given, r .within));
   kept-queued = λ n r. absurd (omega (arith, r .given, r .within));

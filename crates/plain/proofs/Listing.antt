@@ -31,13 +31,13 @@ lines =
     ∷ queued 9 3 2 1
     ∷ stepped 7 1
     ∷ waiting 9 1 7
-    ∷ committed 9 1 0 1
+    ∷ committed 9 1 0 1 0
     ∷ value 4294967295
     ∷ stepped 7 1
     ∷ executed 7
     ∷ value 0
     ∷ refused 7
-    ∷ committed 7 2 0 0
+    ∷ committed 7 2 0 0 1
     ∷ value 100
     ∷ refused 11
     ∷ []

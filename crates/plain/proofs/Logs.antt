@@ -117,7 +117,7 @@ module _ (f : Request → Bool) where
         l = confirm-accepted s i n a .known
 
         go : Confirms i n (s .class c) d → 0 + standing of-item s ≡ count f (committedBy s (d .answer)) + standing of-item (inClass s c (some i) d .site)
-        go (at-once x b sl en p p′ r z t) =
+        go (at-once x b sl bk en p p′ r z t) =
             let k : committedBy s (d .answer) ≡ asks x = rw (z, found s w c i x l en) in
             rw k (omega (arith, turns s c (some i) d (that x) nothing l t of-item lasts))
         go (later x y back en m e p b z t) =

@@ -58,11 +58,11 @@ worked-off k d cm z o (last-done x y rest p p′ al en l c a t) =
 
 confirmed-off : (i n : ℕ) (k : Class) (d : Did) (cf cm : List Request)
     → ((x : Item) → entryOf i (k .queue) ≡ some x → cf ≡ asks x) → (commitOf (d .answer) ≡ none → cm ≡ [])
-    → ((x : Item) (b sl : ℕ) → entryOf i (k .queue) ≡ some x → d .answer ≡ committed i n b sl → cm ≡ asks x)
+    → ((x : Item) (b sl bk : ℕ) → entryOf i (k .queue) ≡ some x → d .answer ≡ committed i n b sl bk → cm ≡ asks x)
     → Confirms i n k d → Moves k (d .class) cf cm
 unfolding runAll
-confirmed-off i n k d cf cm f z o (at-once x b sl en p p′ c a t) =
-    rw (f x en, o x b sl en a) (record { log = rw (p, p′) (sym (append-nil (asks x))); cells = c })
+confirmed-off i n k d cf cm f z o (at-once x b sl bk en p p′ c a t) =
+    rw (f x en, o x b sl bk en a) (record { log = rw (p, p′) (sym (append-nil (asks x))); cells = c })
 confirmed-off i n k d cf cm f z o (later x y back en m e p c a t) =
     rw (f x en, z (ap commitOf a)) (record { log = sym (part-more k (d .class) y p ∙ rw (m .asks-same)); cells = c })
 
@@ -134,7 +134,7 @@ module _ (s : Site) (w : SoundSite s) where
   confirm-moves i n d a =
       in-class c d (some i) x (confirm i n)
       (λ p. confirmed-off i n (s .class c) x _ _ (λ y en. took c y en (mine c y)) (λ z. rw (nothing-committed s _ z))
-      (λ y b sl en an. gave c y b sl en an (mine c y)) (confirm-both s w i n a .1))
+      (λ y b sl bk en an. gave c y b sl bk en an (mine c y)) (confirm-both s w i n a .1))
       (λ m. go m (confirm-both s w i n a .1))
     where
       c : ℕ
@@ -156,12 +156,12 @@ module _ (s : Site) (w : SoundSite s) where
       took : (d : ℕ) (y : Item) → entryOf i (s .class c .queue) ≡ some y → {r : List Request} → (Belongs c y → ofClass d (asks y) ≡ r) → cf (confirm i n) d ≡ r
       took d y en f = rw (a, found c i y l en, under-one y) (f (belongs c i y l en))
 
-      gave : (d : ℕ) (y : Item) (b sl : ℕ) → entryOf i (s .class c .queue) ≡ some y → x .answer ≡ committed i n b sl → {r : List Request}
+      gave : (d : ℕ) (y : Item) (b sl bk : ℕ) → entryOf i (s .class c .queue) ≡ some y → x .answer ≡ committed i n b sl bk → {r : List Request}
           → (Belongs c y → ofClass d (asks y) ≡ r) → cm (x .answer) d ≡ r
-      gave d y b sl en an f = rw (an, found c i y l en) (f (belongs c i y l en))
+      gave d y b sl bk en an f = rw (an, found c i y l en) (f (belongs c i y l en))
 
       go : (d ≡ c → ⊥) → Confirms i n (s .class c) x → (cf (confirm i n) d ≡ []) × (cm (x .answer) d ≡ [])
-      go m (at-once y b sl en p p′ v an t) = (took d y en (λ f. others c d y f m), gave d y b sl en an (λ f. others c d y f m))
+      go m (at-once y b sl bk en p p′ v an t) = (took d y en (λ f. others c d y f m), gave d y b sl bk en an (λ f. others c d y f m))
       go m (later y z back en r e p q an t) = (took d y en (λ f. others c d y f m), rw (nothing-committed s (x .answer) (ap commitOf an)))
 
   offer-moves : (b : List ℕ) (d : ℕ) → accepts s (offer b) ≡ true

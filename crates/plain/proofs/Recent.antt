@@ -214,7 +214,7 @@ module _ (s : Site) (w : SoundSite s) where
       unnumbered x en = let u : isConfirmed x ≡ false = rw en at (g .waits) in omega (arith, ltb-false 0 (x .number) u)
 
       go : Confirms i n (s .class c) d → Keeping (inClass s c (some i) d .site)
-      go (at-once x b sl en p p′ r z t) =
+      go (at-once x b sl bk en p p′ r z t) =
           number-keeps i n c d g x nothing (g .known) en (unnumbered x en) t (λ m k u j. omega arith) refl
       go (later x y back en num e p b z t) =
           number-keeps i n c d g x (that y) (g .known) en (unnumbered x en) t

@@ -113,9 +113,10 @@ module _ (s : Site) (w : SoundSite s) (r : Request) (j : ℕ) (u : Keeps s r j) 
     free = rw is (eq-eqb _ 0 gone);
   }
     where
-      named : committed (idOf x) n (o .declined) (x .slot) ≡ committed (r .id) n (o .declined) j
+      named : committed (idOf x) n (o .declined) (x .slot) (x .backs) ≡ committed (r .id) n (o .declined) j (x .backs)
       named =
-          ap (λ (q : Request). committed (q .id) n (o .declined) (x .slot)) (u .request) ∙ ap (committed (r .id) n (o .declined)) (u .slot)
+          ap (λ (q : Request). committed (q .id) n (o .declined) (x .slot) (x .backs)) (u .request)
+          ∙ ap (λ (l : ℕ). committed (r .id) n (o .declined) l (x .backs)) (u .slot)
 
       shorter : count (slotIs j) (s .class c .queue) ≡ 1 + count (slotIs j) (d .class .queue)
       shorter = ap (count (slotIs j)) (o .behind) ∙ rw (eq-eqb (x .slot) j (u .slot))
@@ -190,11 +191,11 @@ slotIn (queued i c p s) = some s
 slotIn (refused n) = none
 slotIn (stepped i d) = none
 slotIn (executed i) = none
-slotIn (committed i n d s) = none
+slotIn (committed i n d s b) = none
 slotIn (waiting i w b) = none
 slotIn (value x) = none
-slotIn (toDo w) = none
-slotIn unconfirmed = none
+slotIn (toDo w b) = none
+slotIn (unconfirmed b) = none
 
 work-gives : (k : Class) → slotIn (workStep k .answer) ≡ none
 unfolding workStep

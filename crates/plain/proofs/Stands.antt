@@ -26,7 +26,7 @@ Stands i x q = (y : Item) × (entryOf i q ≡ some y) × (y .request ≡ x .requ
 pub record Off (k : Class) (d : Did) (x : Item) (n : ℕ) : Type 0 where
   pub behind : k .queue ≡ x ∷ d .class .queue
   pub declined : ℕ
-  pub says : d .answer ≡ committed (idOf x) n declined (x .slot)
+  pub says : d .answer ≡ committed (idOf x) n declined (x .slot) (x .backs)
 
 -- WORK leaves it there, unless it does the last operation of the confirmed head
 abbrev pub AfterWork : ℕ → Class → Did → Item → Type 0

@@ -91,7 +91,7 @@ module _ (c top : ℕ) (e : Entry) (rest : List Item) (base w : List ℕ) (s : S
   none-here f = none-confirmed rest (waits-all 0 top e rest (s .order) f)
 
   more : Alike e e′
-  more = record { tests = λ f h. h .work e (tried e w); asks-same = refl; line-same = refl }
+  more = record { tests = λ f h. h .work e (tried e w); asks-same = refl; line-same = refl; backs-same = refl }
 
   same : Turnover (classWith (e ∷ rest) base w) (classWith (e′ ∷ rest) base w′) nothing nothing
   same f h = rw (h .work e (tried e w))

@@ -8,13 +8,13 @@ use mathlib.Core.List.{List, [], _∷_, _++_}
 use lib.ListN.{length, take}
 use Rattle.plain.specs.Ops.{Request, runAll}
 use Rattle.plain.specs.Record.{requestIn}
-use Rattle.plain.specs.Queue.{Entry, isExecuted, isConfirmed, left, entryOf}
+use Rattle.plain.specs.Queue.{Entry, idOf, isExecuted, isConfirmed, left, entryOf}
 use Rattle.plain.specs.Steps.{Answer, refused, queued, stepped, executed, committed, waiting, value, toDo, unconfirmed}
 use Rattle.plain.specs.Site.{Site, Call, Outcome, offer, work, confirm, read, look, zeros, call, accepts, refusal}
 use Rattle.plain.specs.Site.{classOf, isFree, isQueued, isKept}
 use Rattle.plain.specs.Sizes.{classCount, slotCount, keptCount}
-use Rattle.plain.specs.Sound.{SoundSite}
-use Rattle.plain.specs.History.{after, afterFrom, worksFrom, confirmations, confirmedIn, committedIn}
+use Rattle.plain.specs.Sound.{All, SoundSite}
+use Rattle.plain.specs.History.{after, afterFrom, worksFrom, confirmations, putBacks, confirmedIn, committedIn}
 
 -- DEMAND 2, of class c after a history from fresh: its committed cells are those got by running its committed requests one after another, and
 -- these are the first confirmed ones of the class in definitive order
@@ -31,28 +31,30 @@ Counted m (p ∷ ps) = (p .0 ≡ suc m) × Counted (suc m) ps
 pub record Commits (a : Answer) (i n : ℕ) : Type 0 where
   pub declined : ℕ
   pub slot : ℕ
-  pub says : a ≡ committed i n declined slot
+  pub backs : ℕ
+  pub says : a ≡ committed i n declined slot backs
 
 -- the W of an accepted confirmation's answer: 0 for a commit
 abbrev pub wOf : Answer → ℕ
 wOf (waiting i w b) = w
-wOf (committed i n d s) = 0
+wOf (committed i n d s b) = 0
 wOf (refused n) = 0
 wOf (queued i c p s) = 0
 wOf (stepped i d) = 0
 wOf (executed i) = 0
 wOf (value x) = 0
-wOf (toDo w) = 0
-wOf unconfirmed = 0
+wOf (toDo w b) = 0
+wOf (unconfirmed b) = 0
 
--- What holds on a site after x accepted work calls for class c, of the W that the confirmation of i under n answered, while x is less than W
-pub record Waits (s : Site) (c i n W x : ℕ) : Type 0 where
+-- What holds on a site after x accepted work calls for class c, of the W that the confirmation of i under n answered, while x is less than W;
+-- `backs` is how often the request had been put back when it was confirmed
+pub record Waits (s : Site) (c i n backs W x : ℕ) : Type 0 where
   -- the request is still queued there, confirmed under its number
   pub it : Entry
   pub queued : entryOf i (s .class c .queue) ≡ some it
   pub number : it .number ≡ n
-  -- look answers exactly what is left: no other call adds to it, and none puts the request back
-  pub says : call s (look i) .answer ≡ toDo (W - x)
+  -- look answers exactly what is left, and that count: no other call adds to them, so none puts the request back
+  pub says : call s (look i) .answer ≡ toDo (W - x) backs
   -- a work call for the class is not refused
   pub works : accepts s (work c) ≡ true
   -- and it commits the request exactly if it is the W-th
@@ -60,11 +62,11 @@ pub record Waits (s : Site) (c i n W x : ℕ) : Type 0 where
   pub no-sooner : suc x < W → Commits (call s (work c) .answer) i n → ⊥
 
 -- DEMAND 3, of an accepted confirmation of i under n and its outcome o: if W is 0 the request commits in that call; otherwise after any further
--- calls, as long as fewer than W of them were accepted work calls for its class, it waits
-pub record Demand3 (c i n : ℕ) (o : Outcome) : Type 0 where
+-- calls, as long as fewer than W of them were accepted work calls for its class, it waits, and has been put back as often as before the confirmation
+pub record Demand3 (c i n backs : ℕ) (o : Outcome) : Type 0 where
   pub at-once : wOf (o .answer) ≡ 0 → Commits (o .answer) i n
   pub later : 0 < wOf (o .answer) → (h : List Call) → worksFrom (o .site) c h < wOf (o .answer)
-      → Waits (afterFrom (o .site) h) c i n (wOf (o .answer)) (worksFrom (o .site) c h)
+      → Waits (afterFrom (o .site) h) c i n backs (wOf (o .answer)) (worksFrom (o .site) c h)
 
 -- an offer's refusal by its record or by its id
 abbrev pub Turned : ℕ → Type 0
@@ -75,6 +77,17 @@ Turned reason = (reason ≡ 3) ⊎ (reason ≡ 4) ⊎ (reason ≡ 14)
 pub record KeptOut (h : List Call) : Type 0 where
   pub offers-refused : (before behind : List (ℕ × Request)) (n : ℕ) (r : Request) → confirmations h ≡ before ++ (n, r) ∷ behind
       → length behind < keptCount → (b : List ℕ) → requestIn b .id ≡ r .id → Turned (refusal (after h) (offer b))
+
+-- an answer to look says this count of times put back
+abbrev pub Shows : Answer → ℕ → Type 0
+Shows a backs = ((w : ℕ) × (a ≡ toDo w backs)) ⊎ (a ≡ unconfirmed backs)
+
+-- PUT BACK. After a history from fresh the count of each queued request is how many accepted confirmations have put it back since its offer, and
+-- look and a commit answer it
+pub record CountedBack (h : List Call) : Type 0 where
+  pub of-queued : (c : ℕ) → c < classCount → All (λ e. e .backs ≡ putBacks (idOf e) h) (after h .class c .queue)
+  pub of-looked : (i backs : ℕ) → Shows (call (after h) (look i) .answer) backs → backs ≡ putBacks i h
+  pub of-committed : (k : Call) (i n declined slot backs : ℕ) → call (after h) k .answer ≡ committed i n declined slot backs → backs ≡ putBacks i h
 
 -- the class in which a call works
 abbrev pub home : Site → Call → ℕ
@@ -125,7 +138,7 @@ pub record Frees (s : Site) (k : Call) (o : Outcome) (r : Request) (j : ℕ) : T
   pub confirmed : 0 < number
   pub both : BringsBoth k r (kept .it) number
   pub declined : ℕ
-  pub says : o .answer ≡ committed (r .id) number declined j
+  pub says : o .answer ≡ committed (r .id) number declined j (kept .it .backs)
   pub free : isFree (o .site) j ≡ true
 
 -- the answer says that a request is given slot j

@@ -8,13 +8,14 @@ use lib.ListN.{length}
 use Rattle.plain.specs.Ops.{Op, Request}
 
 -- a queued request: number 0 while it waits, the definitive number once it is confirmed; its mark is the place of the first of its done
--- operations that declined, or 0
+-- operations that declined, or 0; and how often it was put back
 pub record Entry : Type 0 where
   pub request : Request
   pub slot : ℕ
   pub number : ℕ
   pub done : ℕ
   pub mark : ℕ
+  pub backs : ℕ
 
 abbrev pub idOf : Entry → ℕ
 idOf e = e .request .id

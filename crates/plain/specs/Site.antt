@@ -62,6 +62,10 @@ abbrev pub confirmedAt : Option Item → Bool
 confirmedAt none = false
 confirmedAt (some x) = isConfirmed x
 
+abbrev pub backsAt : Option Item → ℕ
+backsAt none = 0
+backsAt (some x) = x .backs
+
 -- does the slot stand in no queue? the lowest-numbered free slot
 unfoldable pub isFree : Site → ℕ → Bool
 isFree s i = eqb (standing (slotIs i) s) 0
@@ -140,11 +144,11 @@ commitOf (refused n) = none
 commitOf (queued i c p s) = none
 commitOf (stepped i d) = none
 commitOf (executed i) = none
-commitOf (committed i n d s) = some i
+commitOf (committed i n d s b) = some i
 commitOf (waiting i w b) = none
 commitOf (value x) = none
-commitOf (toDo w) = none
-commitOf unconfirmed = none
+commitOf (toDo w b) = none
+commitOf (unconfirmed b) = none
 
 abbrev pub commitsBy : Answer → ℕ
 commitsBy a = elim (commitOf a) [ none ↦ 0 | some i ↦ 1 ]
@@ -173,9 +177,10 @@ inClass s c new d = record {
   answer = d .answer;
 }
 
--- LOOK. W for a confirmed request, or that it is unconfirmed
+-- LOOK. W for a confirmed request, or that it is unconfirmed; and how often it was put back
 abbrev pub lookAnswer : ℕ → Class → Answer
-lookAnswer i k = cond (confirmedAt (entryOf i (k .queue))) (toDo (owed i (k .queue))) unconfirmed
+lookAnswer i k =
+    cond (confirmedAt (entryOf i (k .queue))) (toDo (owed i (k .queue)) (backsAt (entryOf i (k .queue)))) (unconfirmed (backsAt (entryOf i (k .queue))))
 
 -- what an accepted call does
 unfoldable pub act : Site → Call → Outcome

@@ -21,6 +21,10 @@ mostOps = 7
 abbrev pub word : ℕ
 word = 2 ^ 32
 
+-- a count of times put back has 64 bits
+abbrev pub wideWord : ℕ
+wideWord = 2 ^ 64
+
 -- ids and definitive numbers go up to here
 abbrev pub lastNumber : ℕ
 lastNumber = 4294967295

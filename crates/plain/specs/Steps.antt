@@ -20,11 +20,11 @@ pub data Answer : Type 0 where
   queued : (id class place slot : ℕ) → Answer
   stepped : (id done : ℕ) → Answer
   executed : (id : ℕ) → Answer
-  committed : (id number declined slot : ℕ) → Answer
+  committed : (id number declined slot backs : ℕ) → Answer
   waiting : (id w putBack : ℕ) → Answer
   value : (cell : ℕ) → Answer
-  toDo : (w : ℕ) → Answer
-  unconfirmed : Answer
+  toDo : (w backs : ℕ) → Answer
+  unconfirmed : (backs : ℕ) → Answer
 
 -- a step's outcome in a class
 pub record Did : Type 0 where
@@ -36,14 +36,14 @@ classWith q base w = record { queue = q; committed = base; working = w }
 
 -- COMMIT. The working cells become the committed ones; the next request is the head
 abbrev pub ending : Item → Answer
-ending e = committed (idOf e) (e .number) (e .mark) (e .slot)
+ending e = committed (idOf e) (e .number) (e .mark) (e .slot) (e .backs)
 
 abbrev pub commit : Item → List Item → List ℕ → Did
 commit x rest w = record { class = classWith rest w w; answer = ending x }
 
--- OFFER. The request joins the end of the queue, waiting, with nothing done
+-- OFFER. The request joins the end of the queue, waiting, with nothing done and never put back
 abbrev pub newEntry : Request → ℕ → Entry
-newEntry r slot = record { request = r; slot = slot; number = 0; done = 0; mark = 0 }
+newEntry r slot = record { request = r; slot = slot; number = 0; done = 0; mark = 0; backs = 0 }
 
 unfoldable pub offerStep : Request → ℕ → Class → Did
 offerStep r slot k = record {
@@ -58,7 +58,7 @@ tried e w = cond (eqb (e .mark) 0) (carryAt (suc (e .done)) (getD (opsOf e) (e .
 
 abbrev pub advanced : Entry → Ran → Entry
 advanced e t =
-    record { request = e .request; slot = e .slot; number = e .number; done = suc (e .done); mark = markOf t }
+    record { request = e .request; slot = e .slot; number = e .number; done = suc (e .done); mark = markOf t; backs = e .backs }
 
 -- if that was its last, a confirmed head commits, and a waiting head is executed and stays
 abbrev pub worked : Entry → List Item → List ℕ → List ℕ → Did
@@ -83,11 +83,11 @@ idle (e ∷ rest) = isExecuted e
 
 -- CONFIRM. The request gets its number
 abbrev pub numbered : ℕ → Item → Item
-numbered n e = record { request = e .request; slot = e .slot; number = n; done = e .done; mark = e .mark }
+numbered n e = record { request = e .request; slot = e .slot; number = n; done = e .done; mark = e .mark; backs = e .backs }
 
--- put back: nothing done, not declined
+-- put back: nothing done, not declined, and put back once more
 abbrev pub putBack : Item → Item
-putBack e = record { request = e .request; slot = e .slot; number = e .number; done = 0; mark = 0 }
+putBack e = record { request = e .request; slot = e .slot; number = e .number; done = 0; mark = 0; backs = suc (e .backs) }
 
 -- a head that is another request, if it waits, is put back: the head, the working cells, and the id put back or 0
 abbrev pub backed : Item → Item

@@ -28,11 +28,11 @@ refusal-in (refused n) f = (n, refl)
 refusal-in (queued i c p s) f = no _ refl f
 refusal-in (stepped i d) f = no _ refl f
 refusal-in (executed i) f = no _ refl f
-refusal-in (committed i n d s) f = no _ refl f
+refusal-in (committed i n d s b) f = no _ refl f
 refusal-in (waiting i w b) f = no _ refl f
 refusal-in (value x) f = no _ refl f
-refusal-in (toDo w) f = no _ refl f
-refusal-in unconfirmed f = no _ refl f
+refusal-in (toDo w b) f = no _ refl f
+refusal-in (unconfirmed b) f = no _ refl f
 
 -- an accepted call's answer is no refusal
 work-answers : (q : List Item) (base w : List ℕ) → idle q ≡ false → Accepted (workOn q base w .answer)

@@ -10,7 +10,7 @@ use Rattle.plain.specs.Ops.{Request}
 use Rattle.plain.specs.Queue.{count, owed}
 use Rattle.plain.specs.Steps.{Answer, refused, committed, toDo, unconfirmed}
 use Rattle.plain.specs.Site as P
-use Rattle.plain.specs.Site.{Call, confirm, look, call, act, accepts, refusal, standing, classOf, entryAt, confirmedAt}
+use Rattle.plain.specs.Site.{Call, confirm, look, call, act, accepts, refusal, standing, classOf, entryAt, confirmedAt, backsAt}
 use Rattle.plain.specs.Sound.{SoundSite}
 use Rattle.plain.specs.History.{after, offers, commits}
 use Rattle.plain.specs.Demands.{wOf}
@@ -55,31 +55,31 @@ w-bounded {x} {i = i} {n = n} e =
     (λ r d. rw (d .answer) (B.confirm-bounded (plainOf x) (plain-sound (e .before) (r .1)) i n))
     (λ m d. rw (d .answer) (omega arith))
 
-look-w : (s : P.Site) → SoundSite s → (i w : ℕ) → toDo w ≡ call s (look i) .answer → w ≤ mostW
+look-w : (s : P.Site) → SoundSite s → (i w b : ℕ) → toDo w b ≡ call s (look i) .answer → w ≤ mostW
 unfolding call act
-look-w s q i w e =
+look-w s q i w b e =
     by-test (accepts s (look i))
     (λ t. there t (rw t at e))
-    (λ f. let z : toDo w ≡ refused (refusal s (look i)) = e ∙ refused-answers s (look i) f in
+    (λ f. let z : toDo w b ≡ refused (refusal s (look i)) = e ∙ refused-answers s (look i) f in
     let y : _≡_ {A = ℕ} 0 1 = cc in absurd (omega arith))
   where
-    there : accepts s (look i) ≡ true → toDo w ≡ act s (look i) .answer → w ≤ mostW
+    there : accepts s (look i) ≡ true → toDo w b ≡ act s (look i) .answer → w ≤ mostW
     there t e =
         by-test (confirmedAt (entryAt s i))
-        (λ c. let z : toDo w ≡ toDo (owed i (s .class (classOf s i) .queue)) = rw c at e in
+        (λ c. let z : toDo w b ≡ toDo (owed i (s .class (classOf s i) .queue)) (backsAt (entryAt s i)) = rw c at e in
         let v : w ≡ owed i (s .class (classOf s i) .queue) = cc in
         omega (arith, v, B.w-bounded s q (classOf s i) (look-accepted s i t) i))
-        (λ c. let z : toDo w ≡ unconfirmed = rw c at e in let y : _≡_ {A = ℕ} 0 1 = cc in absurd (omega arith))
+        (λ c. let z : toDo w b ≡ unconfirmed (backsAt (entryAt s i)) = rw c at e in let y : _≡_ {A = ℕ} 0 1 = cc in absurd (omega arith))
 
-pub left-bounded : {x y : State} {i w : ℕ} → Happens x (look i) y (toDo w) → w ≤ mostW
-left-bounded {x} {i = i} {w = w} e =
+pub left-bounded : {x y : State} {i w b : ℕ} → Happens x (look i) y (toDo w b) → w ≤ mostW
+left-bounded {x} {i = i} {w = w} {b = b} e =
     by-contract e
-    (λ r d. look-w (plainOf x) (plain-sound (e .before) (r .1)) i w (d .answer))
-    (λ m d. let z : toDo w ≡ refused m = d .answer in let y : _≡_ {A = ℕ} 0 1 = cc in absurd (omega arith))
+    (λ r d. look-w (plainOf x) (plain-sound (e .before) (r .1)) i w b (d .answer))
+    (λ m d. let z : toDo w b ≡ refused m = d .answer in let y : _≡_ {A = ℕ} 0 1 = cc in absurd (omega arith))
 
 -- the mark, where the call commits
-pub mark-bounded : {x y : State} {k : Call} {i n m j : ℕ} → Happens x k y (committed i n m j) → m ≤ mostOps
-mark-bounded {x} {k = k} {i = i} {n = n} {m = m} {j = j} e =
+pub mark-bounded : {x y : State} {k : Call} {i n m j b : ℕ} → Happens x k y (committed i n m j b) → m ≤ mostOps
+mark-bounded {x} {k = k} {i = i} {n = n} {m = m} {j = j} {b = b} e =
     by-contract e
-    (λ r d. B.mark-bounded (plainOf x) (plain-sound (e .before) (r .1)) k i n m j (sym (d .answer)))
-    (λ r d. let z : committed i n m j ≡ refused r = d .answer in let y : _≡_ {A = ℕ} 0 1 = cc in absurd (omega arith))
+    (λ r d. B.mark-bounded (plainOf x) (plain-sound (e .before) (r .1)) k i n m j b (sym (d .answer)))
+    (λ r d. let z : committed i n m j b ≡ refused r = d .answer in let y : _≡_ {A = ℕ} 0 1 = cc in absurd (omega arith))

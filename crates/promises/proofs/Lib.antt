@@ -8,5 +8,6 @@ pub mod Slots
 pub mod Unique
 pub mod Kept
 pub mod KeptOut
+pub mod PutBacks
 pub mod Local
 pub mod Promises

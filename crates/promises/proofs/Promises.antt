@@ -7,6 +7,7 @@ use Rattle.promises.proofs.Slots as S
 use Rattle.promises.proofs.Unique as U
 use Rattle.promises.proofs.Kept as K
 use Rattle.promises.proofs.KeptOut as O
+use Rattle.promises.proofs.PutBacks as B
 use Rattle.promises.proofs.Local as L
 
 pub promises : Promises
@@ -21,6 +22,9 @@ promises = record {
   keeps-slot = S.keeps-slot;
   free-slot = S.free-slot;
   kept-out = O.kept-out;
+  put-backs = B.put-backs;
+  put-backs-shown = B.put-backs-shown;
+  put-backs-committed = B.put-backs-committed;
   fresh-ready = K.fresh-ready;
   stays-sound = K.stays-sound;
   stays-right = K.stays-right;

@@ -8,7 +8,7 @@ use lib.ListN.{length, take}
 use Rattle.plain.specs.Ops.{Request, runAll}
 use Rattle.plain.specs.Record.{requestIn}
 use Rattle.plain.specs.Steps.{Answer, refused, queued, toDo}
-use Rattle.plain.specs.Site.{Call, work, look, zeros, classOf, tests, row, refusal}
+use Rattle.plain.specs.Site.{Call, work, look, zeros, classOf, entryAt, backsAt, tests, row, refusal}
 use Rattle.plain.specs.Sound.{All}
 use Rattle.plain.specs.History.{confirmations, confirmedIn, committedIn}
 use Rattle.plain.specs.Demands.{Commits, Counted, wOf, Keeps, Frees, Gives}
@@ -40,22 +40,24 @@ pub record Demand2 (h : List Call) (y : State) (c : ℕ) : Type 0 where
 abbrev pub KeptOut : Answer → Type 0
 KeptOut a = (a ≡ refused 3) ⊎ (a ≡ refused 4) ⊎ (a ≡ refused 14)
 
--- What holds after x accepted work calls for class c, of the W that the confirmation of i under n answered, while x is less than W
-pub record Waits (z : State) (c i n W x : ℕ) : Type 0 where
+-- What holds after x accepted work calls for class c, of the W that the confirmation of i under n answered, while x is less than W; `backs` is how
+-- often the request had been put back when it was confirmed
+pub record Waits (z : State) (c i n backs W x : ℕ) : Type 0 where
   -- a work call for the class is not refused
   pub works : (z′ : State) (a : Answer) → Happens z (work c) z′ a → Accepted a
   -- and it commits the request exactly if it is the W-th
   pub commits : suc x ≡ W → (z′ : State) (a : Answer) → Happens z (work c) z′ a → Commits a i n
   pub no-sooner : suc x < W → (z′ : State) (a : Answer) → Happens z (work c) z′ a → Commits a i n → ⊥
-  -- look answers exactly what is left: no other call adds to it, and none puts the request back
-  pub says : (z′ : State) (a : Answer) → Happens z (look i) z′ a → a ≡ toDo (W - x)
+  -- look answers exactly what is left, and that count: no other call adds to them, so none puts the request back
+  pub says : (z′ : State) (a : Answer) → Happens z (look i) z′ a → a ≡ toDo (W - x) backs
 
 -- DEMAND 3, of an accepted confirmation of i under n on x, that handed back y and answered a: if W is 0 the request commits in that call;
--- otherwise after any further calls, as long as fewer than W of them were accepted work calls for its class, it waits
+-- otherwise after any further calls, as long as fewer than W of them were accepted work calls for its class, it waits, and has been put back as
+-- often as on x
 pub record Demand3 (x : State) (i n : ℕ) (y : State) (a : Answer) : Type 0 where
   pub at-once : wOf a ≡ 0 → Commits a i n
   pub later : 0 < wOf a → (h : List Call) (z : State) (r : Run y h z) → worksIn (classOf (plainOf x) i) r < wOf a
-      → Waits z (classOf (plainOf x) i) i n (wOf a) (worksIn (classOf (plainOf x) i) r)
+      → Waits z (classOf (plainOf x) i) i n (backsAt (entryAt (plainOf x) i)) (wOf a) (worksIn (classOf (plainOf x) i) r)
 
 -- in a run a request was given slot j
 abbrev pub GivenIn : {x y : State} {h : List Call} → Run x h y → ℕ → Type 0

@@ -11,8 +11,8 @@ use Rattle.plain.specs.Record.{requestIn}
 use Rattle.plain.specs.Queue.{count, has}
 use Rattle.plain.specs.Steps.{Answer, committed, toDo}
 use Rattle.plain.specs.Site.{Call, offer, work, confirm, read, look, call, standing, isFree, isQueued}
-use Rattle.plain.specs.History.{after, offers, confirmations, commits, committedIn}
-use Rattle.plain.specs.Demands.{Shares, home, wOf}
+use Rattle.plain.specs.History.{after, offers, confirmations, commits, committedIn, putBacks}
+use Rattle.plain.specs.Demands.{Shares, Shows, home, wOf}
 use Rattle.slots.specs.Meaning.{isUsed, slotAt}
 use Rattle.store.specs.Store.{Store, runSize}
 use Rattle.store.specs.Meaning.{cellsOf}
@@ -51,6 +51,13 @@ pub record Promises : Type 0 where
   pub kept-out : {h : List Call} {y z : State} {b : List ℕ} {a : Answer} → FromFresh h y → Happens y (offer b) z a
       → (before behind : List (ℕ × Request)) (n : ℕ) (r : Request) → confirmations h ≡ before ++ (n, r) ∷ behind → length behind < keptCount
       → requestIn b .id ≡ r .id → KeptOut a
+  -- PUT BACK. From fresh, over any calls, the count in a used slot is how many accepted confirmations have put its request back since its offer, and
+  -- look and a commit answer it
+  pub put-backs : {h : List Call} {y : State} → FromFresh h y → (j : ℕ) → j < slotCount → isUsed (slotAt (y .site .slots) j) ≡ true
+      → slotAt (y .site .slots) j .backs ≡ putBacks (slotAt (y .site .slots) j .id) h
+  pub put-backs-shown : {h : List Call} {y z : State} {a : Answer} {i b : ℕ} → FromFresh h y → Happens y (look i) z a → Shows a b → b ≡ putBacks i h
+  pub put-backs-committed : {h : List Call} {y z : State} {k : Call} {i n m j b : ℕ} → FromFresh h y → Happens y k z (committed i n m j b)
+      → b ≡ putBacks i h
   -- SOUND SITES. A fresh site is sound, and every call leaves a sound site sound, and its cells right
   pub fresh-ready : {base wrk base′ wrk′ : List ℕ} {t : Store} → Started base wrk t 0 base′ wrk′
       → Ready (record { site = t; committed = base′; working = wrk′ })
@@ -61,9 +68,9 @@ pub record Promises : Type 0 where
       → count f (offers h) ≡ count f (commits h) + standing (λ e. f (e .request)) (plainOf y)
   -- W is at most 896, in confirm's answer and in look's
   pub w-bounded : {x y : State} {i n : ℕ} {a : Answer} → Happens x (confirm i n) y a → wOf a ≤ mostW
-  pub left-bounded : {x y : State} {i w : ℕ} → Happens x (look i) y (toDo w) → w ≤ mostW
+  pub left-bounded : {x y : State} {i w b : ℕ} → Happens x (look i) y (toDo w b) → w ≤ mostW
   -- a commit's mark is 0 or the place of an operation, 1 to 7
-  pub mark-bounded : {x y : State} {k : Call} {i n m j : ℕ} → Happens x k y (committed i n m j) → m ≤ mostOps
+  pub mark-bounded : {x y : State} {k : Call} {i n m j b : ℕ} → Happens x k y (committed i n m j b) → m ≤ mostOps
   -- ONE CLASS ALONE. On sites that agree in a class, work and read for it answer alike and change it alike
   pub work-alike : {x x′ : State} {c : ℕ} → Ready x → Ready x′ → c < classCount → Agree x x′ c → Alike x x′ c (work c)
   pub read-alike : {x x′ : State} {c k : ℕ} → Ready x → Ready x′ → c < classCount → Agree x x′ c → Alike x x′ c (read c k)

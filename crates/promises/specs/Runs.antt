@@ -26,11 +26,11 @@ isAccepted (refused n) = false
 isAccepted (queued i c p s) = true
 isAccepted (stepped i d) = true
 isAccepted (executed i) = true
-isAccepted (committed i n d s) = true
+isAccepted (committed i n d s b) = true
 isAccepted (waiting i w b) = true
 isAccepted (value x) = true
-isAccepted (toDo w) = true
-isAccepted unconfirmed = true
+isAccepted (toDo w b) = true
+isAccepted (unconfirmed b) = true
 
 abbrev pub Accepted : Answer → Type 0
 Accepted a = isAccepted a ≡ true

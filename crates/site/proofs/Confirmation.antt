@@ -11,9 +11,9 @@ use Rattle.slots.specs.Rules.{Holds}
 use Rattle.store.specs.Store.{Store, Shaped}
 use Rattle.store.specs.Meaning.{lenOf}
 use Rattle.store.specs.Calls.{State, Did}
-use Rattle.store.specs.Steps.{headSlot, numberedStore, PlaceOf, FirstWaiting, Commitable, CommitDone, PutBack, Forward}
+use Rattle.store.specs.Steps.{headSlot, numberedStore, PlaceOf, FirstWaiting, Backable, Commitable, CommitDone, PutBack, Forward}
 use Rattle.store.proofs.Commit.{head-small}
-use Rattle.store.proofs.Confirming.{class-here, held, stands-once, queue-some, may-commit, committed-now}
+use Rattle.store.proofs.Confirming.{class-here, held, stands-once, queue-some, may-be-put-back, may-commit, committed-now}
 use Rattle.store.proofs.Confirmed.{Movable, forward, Goes, itself, behind-confirmed, head-put-back}
 use Rattle.store.proofs.Work.{work-left}
 use Rattle.site.specs.Held.{InQueue, Confirmable, HeadDone}
@@ -47,6 +47,9 @@ module _ (x : State) (w : Shaped (x .site)) (i : ℕ) (f : Confirmable x i) wher
   pub first-small : headSlot (x .site) c < 128
   first-small = head-small (x .site) w (f .sound .laid) c small-class some-queued
 
+  pub may-back : Backable (x .site) (x .committed) (x .working) c
+  may-back = may-be-put-back x w (f .right) (f .sound) id n (f .more) c small-class some-queued
+
   pub movable : (from to : ℕ) → PlaceOf (x .site) c i from → FirstWaiting (x .site) c to → Movable x id n i from to
   movable from to p q = record {
     more = f .more;
@@ -66,7 +69,7 @@ module _ (x : State) (w : Shaped (x .site)) (i : ℕ) (f : Confirmable x i) wher
         (may-commit x w (f .right) (f .sound) id n (f .more) refl i (f .small) refl (f .used) (f .waits) (h .0))
 
     pub committed : (t : Store) (base′ : List ℕ) → CommitDone s₁ (x .committed) (x .working) c t base′
-        → Did x (S.confirm id n) (record { site = t; committed = base′; working = x .working }) (K.committed id n (slotAt (x .site .slots) i .mark) i)
+        → Did x (S.confirm id n) (record { site = t; committed = base′; working = x .working }) (K.committed id n (slotAt (x .site .slots) i .mark) i (slotAt (x .site .slots) i .backs))
     committed t base′ d =
         committed-now x w (f .right) (f .sound) id n (f .more) refl i (f .small) refl (f .used) (f .waits) (h .0) (h .1) t base′
         (subst (λ (z : Store). CommitDone z (x .committed) (x .working) c t base′) e d)

@@ -41,11 +41,11 @@ answerOf (a.Refused n) = K.refused n
 answerOf (a.Queued id class place slot) = K.queued id class place slot
 answerOf (a.Stepped id done) = K.stepped id done
 answerOf (a.Executed id) = K.executed id
-answerOf (a.Committed id number mark slot) = K.committed id number mark slot
+answerOf (a.Committed id number mark slot backs) = K.committed id number mark slot backs
 answerOf (a.Waiting id w back) = K.waiting id w back
 answerOf (a.Value n) = K.value n
-answerOf (a.ToDo w) = K.toDo w
-answerOf a.Unconfirmed = K.unconfirmed
+answerOf (a.ToDo w backs) = K.toDo w backs
+answerOf (a.Unconfirmed backs) = K.unconfirmed backs
 
 -- what every call begins with: 0 where the cells are right and the site sound; any other number is what every call is refused with
 pub record Door (x : State) (no : ℕ) : Type 0 where

@@ -4,9 +4,8 @@ ghost use Prim.Native.Nat.{_+_, _<_, _≤_};
 ghost use Rattle.plain.specs.Site.{confirm};
 ghost use Rattle.slots.specs.Meaning.{slotAt};
 ghost use Rattle.store.specs.Sound.{Laid};
-ghost use Rattle.store.specs.Steps.{PutBack, PlaceOf, FirstWaiting, Forward, numberedStore};
-ghost use Rattle.store.specs.Meaning.{lenOf};
-ghost use Rattle.store.specs.Calls.{RightCells, Did, Called};
+ghost use Rattle.store.specs.Steps.{Backable, PutBack, PlaceOf, FirstWaiting, Forward, numberedStore};
+ghost use Rattle.store.specs.Calls.{Did, Called};
 ghost use Rattle.plain.specs.Decides.{Decides};
 ghost use Rattle.site.specs.Held.{store, stateOf, answerOf, Judged, MayConfirm, Confirmable, HeadDone, InQueue};
 use crate::Answer;
@@ -58,9 +57,9 @@ impl Site {
         p
     }
 
-    // The head of class c is put back: nothing done, not declined, and the working cells of the class become the committed ones.
+    // The head of class c is put back: nothing done, not declined, put back once more, and the working cells of the class become the committed ones.
     fn put_back(mut self, committed: &[u32], working: &mut [u32], c: usize) -> Self
-        requires { ⌜ Laid (store self) × (c < 16) × (0 < lenOf (store self) c) × RightCells (stateOf self (now committed) (now working)) ⌝ }
+        requires { ⌜ Backable (store self) (now committed) (now working) c ⌝ }
         ensures { λ r. ⌜ PutBack (store self) (now (committed .entry)) (now (working .entry)) c (store r) (now (working .exit)) ⌝ }
     {
         cells::copy_class(working, committed, c);
@@ -68,6 +67,7 @@ impl Site {
         let mut v = self.slots[i];
         v.done = 0;
         v.mark = 0;
+        v.backs = v.backs + 1;
         self.slots[i] = v;
         self
     }
@@ -97,7 +97,7 @@ impl Site {
     }
 
     // Slot i.
-    fn slot(self, i: usize) -> Slot
+    pub(crate) fn slot(self, i: usize) -> Slot
         requires { ⌜ i < 128 ⌝ }
         ensures { λ r. ⌜ r ≡ slotAt (self .slots) i ⌝ }
     {
@@ -180,6 +180,7 @@ impl Site {
                 number: n,
                 mark: head.mark,
                 slot: (i % 256) as u8,
+                backs: head.backs,
             },
         }
     }

@@ -63,6 +63,7 @@ pub enum Answer {
         number: u32,
         mark: u8,
         slot: u8,
+        backs: u64,
     },
     Waiting {
         id: u32,
@@ -70,8 +71,13 @@ pub enum Answer {
         back: u32,
     },
     Value(u32),
-    ToDo(u32),
-    Unconfirmed,
+    ToDo {
+        w: u32,
+        backs: u64,
+    },
+    Unconfirmed {
+        backs: u64,
+    },
 }
 
 // The site handed back, with the answer.
@@ -128,7 +134,7 @@ impl Site {
         ensures { λ r. ⌜ Decides r (Sound (store self) (now (committed .entry)) (now (working .entry))) ⌝ }
     {
         let slots = self.slots;
-        let o = gather_owners(slots);
+        let o = gather_owners(slots, self.confirmations);
         if !o.ok {
             return false;
         }

@@ -75,7 +75,7 @@ impl Site {
         Answer::Value(committed[at])
     }
 
-    // W for a confirmed request, or that it is unconfirmed; or refuses with 1, 2 or 8.
+    // W for a confirmed request, or that it is unconfirmed, and how often it was put back; or refuses with 1, 2 or 8.
     pub fn look(self, committed: &[u32], working: &[u32], id: u64) -> Answer
         ensures { λ r. ⌜ Called (stateOf self (now (committed .entry)) (now (working .entry))) (look id) (stateOf self (now (committed .entry)) (now (working .entry))) (answerOf r) ⌝ }
     {
@@ -87,11 +87,15 @@ impl Site {
         if SLOTS <= i {
             return Answer::Refused(8);
         }
-        let v = self.slots[i];
+        let v = self.slot(i);
         if v.number == 0 {
-            return Answer::Unconfirmed;
+            return Answer::Unconfirmed { backs: v.backs };
         }
         let c = v.class as usize;
-        Answer::ToDo(self.to_do(c, i))
+        let w = self.to_do(c, i);
+        Answer::ToDo {
+            w: w,
+            backs: v.backs,
+        }
     }
 }

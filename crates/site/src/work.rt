@@ -95,6 +95,7 @@ impl Site {
                 number: u.number,
                 mark: u.mark,
                 slot: s,
+                backs: u.backs,
             },
         }
     }

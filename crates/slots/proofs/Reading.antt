@@ -216,6 +216,6 @@ module _ (b : List ℕ) where
   a-record e h =
       record {
         ok-is = sym e;
-        new = λ t. record { held = h; number = refl; done = refl; mark = refl };
+        new = λ t. record { held = h; number = refl; done = refl; mark = refl; backs = refl };
         request = λ t. same-request (h .count);
       }

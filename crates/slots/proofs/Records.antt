@@ -64,10 +64,11 @@ module _ (v : Slot) (seven : length (v .ops) ≡ mostOps) where
       getD-drop n (v .ops) k noOp ∙ h (n + k) (omega arith) (omega arith) ∙ sym (getD-replicate (mostOps - n) k noOp noOp s))
 
   -- a slot of which all is zero
-  pub all-zero : OpsZero v → v .id ≡ 0 → v .class ≡ 0 → v .count ≡ 0 → v .number ≡ 0 → v .done ≡ 0 → v .mark ≡ 0 → v ≡ freeSlot
-  all-zero h a b c d e f =
+  pub all-zero : OpsZero v → v .id ≡ 0 → v .class ≡ 0 → v .count ≡ 0 → v .number ≡ 0 → v .done ≡ 0 → v .mark ≡ 0 → v .backs ≡ 0
+      → v ≡ freeSlot
+  all-zero h a b c d e f g =
       let z : v .ops ≡ replicate mostOps noOp = zeros-from 0 (omega arith) (λ k l m. h k l) in
-      λ i. record { id = a i; class = b i; count = c i; ops = z i; number = d i; done = e i; mark = f i }
+      λ i. record { id = a i; class = b i; count = c i; ops = z i; number = d i; done = e i; mark = f i; backs = g i }
 
   taken : v .count ≤ mostOps → length (take (v .count) (v .ops)) ≡ v .count
   taken l = length-take-le (v .count) (v .ops) (omega arith)

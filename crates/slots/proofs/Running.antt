@@ -58,11 +58,11 @@ marked i v base w h = go (soFar (entryOf i v) base) (h .mark) (h .cells)
 -- a step's outcome, by what the operation came to
 pub step-as : (v : Slot) (base w w′ : List ℕ) (m : ℕ) (t : P.Ran) → triedBy v w ≡ t → m ≡ P.markOf t → w′ ≡ P.leaves t base
     → StepDone v base w
-    (record { id = v .id; class = v .class; count = v .count; ops = v .ops; number = v .number; done = v .done + 1; mark = m }) w′
+    (record { id = v .id; class = v .class; count = v .count; ops = v .ops; number = v .number; done = v .done + 1; mark = m; backs = v .backs }) w′
 step-as v base w w′ m t h e f =
     let one : v .done + 1 ≡ suc (v .done) = omega arith in
     let mark : m ≡ P.markOf (triedBy v w) = e ∙ ap P.markOf (sym h) in
     record {
-      slot = λ i. record { id = v .id; class = v .class; count = v .count; ops = v .ops; number = v .number; done = one i; mark = mark i };
+      slot = λ i. record { id = v .id; class = v .class; count = v .count; ops = v .ops; number = v .number; done = one i; mark = mark i; backs = v .backs };
       cells = f ∙ ap (λ (o : P.Ran). P.leaves o base) (sym h);
     }

@@ -27,7 +27,7 @@ triedBy v w = cond (eqb (v .mark) 0) (carriedAt v (v .done) w) (P.declined (v .m
 
 abbrev pub afterStep : Slot → P.Ran → Slot
 afterStep v t =
-    record { id = v .id; class = v .class; count = v .count; ops = v .ops; number = v .number; done = suc (v .done); mark = P.markOf t }
+    record { id = v .id; class = v .class; count = v .count; ops = v .ops; number = v .number; done = suc (v .done); mark = P.markOf t; backs = v .backs }
 
 -- where an operation has declined the working cells are the committed ones
 abbrev pub Marked : Slot → List ℕ → List ℕ → Type 0

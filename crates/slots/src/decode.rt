@@ -94,6 +94,7 @@ fn slot_in(bytes: &[u8]) -> Slot
         number: 0,
         done: 0,
         mark: 0,
+        backs: 0,
     }
 }
 

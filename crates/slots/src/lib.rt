@@ -25,6 +25,7 @@ pub struct Slot {
     pub number: u32,
     pub done: u8,
     pub mark: u8,
+    pub backs: u64,
 }
 
 // The slot that is free and all zero.
@@ -46,6 +47,7 @@ pub fn free_slot() -> Slot
         number: 0,
         done: 0,
         mark: 0,
+        backs: 0,
     }
 }
 
@@ -111,7 +113,7 @@ pub fn is_zero(v: Slot) -> bool
     ensures { λ r. ⌜ Decides r (v ≡ freeSlot) ⌝ }
 {
     let none = (v.id == 0) & (v.class == 0) & (v.count == 0);
-    let untouched = (v.number == 0) & (v.done == 0) & (v.mark == 0);
+    let untouched = (v.number == 0) & (v.done == 0) & (v.mark == 0) & (v.backs == 0);
     none & untouched & ops_zero(v)
 }
 

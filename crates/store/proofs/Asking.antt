@@ -173,10 +173,10 @@ module _ (x : State) (w : Shaped (x .site)) (r : RightCells x) (q : SoundState x
           ∙ ap (λ (b : K.Answer). record { site = plain s (x .committed) (x .working); answer = b })
           (ap (λ (d : ℕ). S.lookAnswer n (plainClass s (x .committed) (x .working) d)) (found .0) ∙ h))
 
-      pub look-unconfirmed : u .number ≡ 0 → Did x (S.look n) x K.unconfirmed
+      pub look-unconfirmed : u .number ≡ 0 → Did x (S.look n) x (K.unconfirmed (u .backs))
       unfolding plainClass
-      look-unconfirmed z = answers K.unconfirmed (rw (entry, le-ltb 0 (u .number) (omega arith)))
+      look-unconfirmed z = answers (K.unconfirmed (u .backs)) (rw (entry, le-ltb 0 (u .number) (omega arith)))
 
-      pub look-waits : 0 < u .number → (k : ℕ) → k ≡ Q.owed (u .id) (queueOf s (u .class)) → Did x (S.look n) x (K.toDo k)
+      pub look-waits : 0 < u .number → (k : ℕ) → k ≡ Q.owed (u .id) (queueOf s (u .class)) → Did x (S.look n) x (K.toDo k (u .backs))
       unfolding plainClass
-      look-waits z k t = answers (K.toDo k) (rw (entry, lt-ltb 0 (u .number) z) (ap K.toDo (ap (λ (b : ℕ). Q.owed b (queueOf s (u .class))) (sym e) ∙ sym t)))
+      look-waits z k t = answers (K.toDo k (u .backs)) (rw (entry, lt-ltb 0 (u .number) z) (ap (λ (a : ℕ). K.toDo a (u .backs)) (ap (λ (b : ℕ). Q.owed b (queueOf s (u .class))) (sym e) ∙ sym t)))

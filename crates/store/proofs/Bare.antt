@@ -24,7 +24,7 @@ use Rattle.store.proofs.Once.{Flagged, HasClass}
 
 -- a slot of this class, used where its id is not 0
 abbrev bareSlot : ℕ → ℕ → Slot
-bareSlot i c = record { id = cond (eqb i 0) 0 1; class = c; count = 0; ops = replicate mostOps noOp; number = 0; done = 0; mark = 0 }
+bareSlot i c = record { id = cond (eqb i 0) 0 1; class = c; count = 0; ops = replicate mostOps noOp; number = 0; done = 0; mark = 0; backs = 0 }
 
 unfoldable pub bare : (ids classes : List ℕ) → List Slot
 bare [] cs = []

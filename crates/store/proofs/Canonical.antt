@@ -45,6 +45,7 @@ slotBack e = record {
   number = e .number;
   done = e .done;
   mark = e .mark;
+  backs = e .backs;
 }
 
 -- an operation other than a move has no second cell
@@ -85,6 +86,7 @@ slot-back i v l h = λ k. record {
   number = v .number;
   done = v .done;
   mark = v .mark;
+  backs = v .backs;
 }
   where
     n : length (map opOf (take (v .count) (v .ops))) ≡ v .count

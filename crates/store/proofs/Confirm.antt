@@ -1,5 +1,5 @@
 -- Confirm, of a request that does not commit at once: its slot gets the number, another waiting head is put back, and its place moves up. Assumes nothing.
-use Prim.Native.Nat.{ℕ, suc, _-_, _<_, _≤_}
+use Prim.Native.Nat.{ℕ, suc, _+_, _-_, _<_, _≤_}
 use native.Mathlib.Omega.{arith}
 use mathlib.Core.Path.{_≡_, refl, sym, ap, _∙_}
 use mathlib.Core.Logic.{_⊎_}
@@ -93,4 +93,6 @@ module _ (sl : List Slot) (ps : List ℕ) (i from to n : ℕ) (l : from < length
 
 pub back-queue : (sl : List Slot) (h : ℕ) (ps : List ℕ) (m : h < length sl) → times h ps ≡ 0
     → entries (set sl h (asPutBack (slotAt sl h))) (h ∷ ps) ≡ K.putBack (entryOf h (slotAt sl h)) ∷ entries sl ps
-back-queue sl h ps m z = rw (at-stored sl h (asPutBack (slotAt sl h)) m, entries-kept sl h (asPutBack (slotAt sl h)) m ps z)
+back-queue sl h ps m z =
+    let one : slotAt sl h .backs + 1 ≡ suc (slotAt sl h .backs) = omega arith in
+    rw (at-stored sl h (asPutBack (slotAt sl h)) m, entries-kept sl h (asPutBack (slotAt sl h)) m ps z, one)

@@ -21,11 +21,11 @@ use Rattle.store.specs.Store.{Store, Shaped}
 use Rattle.store.specs.Meaning.{lenOf, places, entries, queueOf, cellsOf, keptAt, plain, plainClass, Same}
 use Rattle.store.specs.Sound.{times, stands, Laid}
 use Rattle.store.specs.Calls.{State, RightCells, SoundState, Did, plainOf}
-use Rattle.store.specs.Steps.{withSlot, headSlot, withNumber, numberedStore, Commitable, CommitDone}
+use Rattle.store.specs.Steps.{withSlot, headSlot, withNumber, numberedStore, Backable, Commitable, CommitDone}
 use Rattle.store.proofs.KeptIds.{kept-after, unused-after}
 use Rattle.store.proofs.Relaid.{entries-kept}
 use Rattle.store.proofs.Confirm.{holds-kept}
-use Rattle.store.proofs.Commit.{head-is}
+use Rattle.store.proofs.Commit.{head-is, head-small}
 use Rattle.store.proofs.Promise.{sound-kept, same-trans}
 use Rattle.store.proofs.Offered.{not-done, accepted-call}
 use Rattle.store.proofs.Asked.{id-absent, there}
@@ -44,6 +44,16 @@ module _ (x : State) (w : Shaped (x .site)) (r : RightCells x) (q : SoundState x
 
   abbrev k : S.Call
   k = S.confirm id n
+
+  -- NO COUNT WRAPS: none is above the count of confirmations, which is below 4,294,967,295 where one is taken, so 64 bits hold one more
+  pub may-be-put-back : s .confirmations < 4294967295 → (c : ℕ) → c < 16 → 0 < lenOf s c → Backable s (x .committed) (x .working) c
+  may-be-put-back more c l has = record {
+    laid = q .laid;
+    class = l;
+    some = has;
+    cells = r;
+    fits = omega (arith, q .backs-bounded (headSlot s c) (head-small s w (q .laid) c l has));
+  }
 
   pub all-taken : 4294967295 ≤ s .confirmations → Did x k x (K.refused 6)
   unfolding S.refusal plain
@@ -164,7 +174,7 @@ module _ (x : State) (w : Shaped (x .site)) (r : RightCells x) (q : SoundState x
                 ∙ rw (eq-eqb (v .id) id e, ops-count v (w .ops i m) held, le-leb (v .count) (v .done) (omega arith))
 
             pub committed-now : v .done ≡ v .count → (t : Store) (base′ : List ℕ) → CommitDone s₁ (x .committed) (x .working) c t base′
-                → Did x k (record { site = t; committed = base′; working = x .working }) (K.committed (v .id) n (v .mark) i)
+                → Did x k (record { site = t; committed = base′; working = x .working }) (K.committed (v .id) n (v .mark) i (v .backs))
             committed-now h t base′ d =
                 let o : S.call p k ≡ S.inClass p c (some id) done = outcome ∙ ap (S.inClass p c (some id)) (step-commits h) in
                 let z : Same (plain t base′ (x .working)) (S.call p k .site) = rw o (same-trans (d .site (K.numbered n (entryOf i v))) between) in

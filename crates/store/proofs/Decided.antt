@@ -115,9 +115,9 @@ slot : (v : Slot) → length (v .ops) ≡ 7 → v .id < 2 ^ 32 → Decided ((v �
 slot v n i =
     or-else
     (same
-    (λ h. all-zero v n (h .0) (h .1 .0) (h .1 .1 .0) (h .1 .1 .1 .0) (h .1 .1 .1 .1 .0) (h .1 .1 .1 .1 .1 .0) (h .1 .1 .1 .1 .1 .1))
-    (λ e. (free-zero v e, (ap (λ (v : Slot). v .id) e, (ap (λ (v : Slot). v .class) e, (ap (λ (v : Slot). v .count) e, (ap (λ (v : Slot). v .number) e, (ap (λ (v : Slot). v .done) e, ap (λ (v : Slot). v .mark) e)))))))
-    (and-then (zero-ops v) (λ _. and-then (eq (v .id) 0) (λ _. and-then (eq (v .class) 0) (λ _. and-then (eq (v .count) 0) (λ _. and-then (eq (v .number) 0) (λ _. and-then (eq (v .done) 0) (λ _. eq (v .mark) 0))))))))
+    (λ h. all-zero v n (h .0) (h .1 .0) (h .1 .1 .0) (h .1 .1 .1 .0) (h .1 .1 .1 .1 .0) (h .1 .1 .1 .1 .1 .0) (h .1 .1 .1 .1 .1 .1 .0) (h .1 .1 .1 .1 .1 .1 .1))
+    (λ e. (free-zero v e, (ap (λ (v : Slot). v .id) e, (ap (λ (v : Slot). v .class) e, (ap (λ (v : Slot). v .count) e, (ap (λ (v : Slot). v .number) e, (ap (λ (v : Slot). v .done) e, (ap (λ (v : Slot). v .mark) e, ap (λ (v : Slot). v .backs) e))))))))
+    (and-then (zero-ops v) (λ _. and-then (eq (v .id) 0) (λ _. and-then (eq (v .class) 0) (λ _. and-then (eq (v .count) 0) (λ _. and-then (eq (v .number) 0) (λ _. and-then (eq (v .done) 0) (λ _. and-then (eq (v .mark) 0) (λ _. eq (v .backs) 0)))))))))
     (same
     (λ h. holds v n (h .0) (h .1 .0) i (h .1 .1 .0) (h .1 .1 .1 .0) (h .1 .1 .1 .1))
     (λ h. let g = held v n h in (g .ops, (g .id, (g .class, (g .count, h .count)))))
@@ -196,10 +196,10 @@ module _ (s : Store) (w : Shaped s) where
   pub sound-decided : (base wrk : List ℕ) → Decided (Sound s base wrk)
   sound-decided base wrk =
       same
-      (λ h. sound-of s w base wrk (laid-of s w (h .0) (h .1 .0) (h .1 .1 .0) (h .1 .1 .1 .0) (h .1 .1 .1 .1 .1 .0) (h .1 .1 .1 .1 .1 .1 .1 .1 .1 .1 .1 .filled .unused)) (h .1 .1 .1 .1 .1 .1 .0) (h .1 .1 .1 .1 .1 .1 .1 .0)
-      (h .1 .1 .1 .1 .1 .1 .1 .1 .0) (h .1 .1 .1 .1 .1 .1 .1 .1 .1 .0) (h .1 .1 .1 .1 .1 .1 .1 .1 .1 .1 .0) (h .1 .1 .1 .1 .1 .1 .1 .1 .1 .1 .1))
+      (λ h. sound-of s w base wrk (laid-of s w (h .0) (h .1 .0) (h .1 .1 .0) (h .1 .1 .1 .0) (h .1 .1 .1 .1 .1 .0) (h .1 .1 .1 .1 .1 .1 .1 .1 .1 .1 .1 .0 .filled .unused)) (h .1 .1 .1 .1 .1 .1 .0) (h .1 .1 .1 .1 .1 .1 .1 .0)
+      (h .1 .1 .1 .1 .1 .1 .1 .1 .0) (h .1 .1 .1 .1 .1 .1 .1 .1 .1 .0) (h .1 .1 .1 .1 .1 .1 .1 .1 .1 .1 .0) (h .1 .1 .1 .1 .1 .1 .1 .1 .1 .1 .1 .0) (h .1 .1 .1 .1 .1 .1 .1 .1 .1 .1 .1 .1))
       (λ h. let t = tally-in s w base wrk h in
-      (h .laid .free-or-valid, (h .laid .not-longer-than-128, (tails-in s w base wrk h, (h .laid .map-agrees, (in-range s w (h .laid .not-longer-than-128) (h .laid .exactly-once), (h .laid .exactly-once, (differ-in s w base wrk h, (places-in s w base wrk h, (omega arith, (omega arith, (h .working-cells-follow, kept-in s w base wrk h))))))))))))
+      (h .laid .free-or-valid, (h .laid .not-longer-than-128, (tails-in s w base wrk h, (h .laid .map-agrees, (in-range s w (h .laid .not-longer-than-128) (h .laid .exactly-once), (h .laid .exactly-once, (differ-in s w base wrk h, (places-in s w base wrk h, (omega arith, (omega arith, (h .working-cells-follow, (kept-in s w base wrk h, h .backs-bounded)))))))))))))
       (and-then (below (λ i. (slotAt (s .slots) i ≡ freeSlot) ⊎ Holds (slotAt (s .slots) i)) 128 (λ i l. slot (slotAt (s .slots) i) (w .ops i l) (w .ids i l)))
       (λ _. and-then (below (λ c. getD (s .lens) c 0 ≤ 128) 16 (λ c l. le (getD (s .lens) c 0) 128))
       (λ short. and-then (below (λ c. ZeroFrom (s .queue) (128 * c + lenOf s c) (128 * c + 128)) 16 (λ c _. below (λ k. 128 * c + lenOf s c ≤ k → nth (s .queue) k ≡ 0) (128 * c + 128) (λ k _. when (le (128 * c + lenOf s c) k) (λ _. eq (nth (s .queue) k) 0))))
@@ -211,4 +211,5 @@ module _ (s : Store) (w : Shaped s) where
       (λ _. and-then (le (s .commits) (s .confirmations))
       (λ _. and-then (eq (s .confirmations - s .commits) (numbered (numbersOf (s .slots)) 128))
       (λ _. and-then (below (λ c. Cells (queueOf s c) (cellsOf base c) (cellsOf wrk c)) 16 (λ c l. cells (queueOf s c) (cellsOf base c) (cellsOf wrk c)))
-      (λ _. kept-ids (idsOf (s .slots)) (numbersOf (s .slots)) (s .confirmations) (s .kept)))))))))))))
+      (λ _. and-then (kept-ids (idsOf (s .slots)) (numbersOf (s .slots)) (s .confirmations) (s .kept))
+      (λ _. below (λ i. slotAt (s .slots) i .backs ≤ s .confirmations) 128 (λ i _. le (slotAt (s .slots) i .backs) (s .confirmations)))))))))))))))

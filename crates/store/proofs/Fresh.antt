@@ -87,6 +87,7 @@ module _ where
     confirmed-before-waiting = λ c l. subst (λ (q : List Entry). InOrder 0 (fresh .confirmations) q) (sym (no-queue c l)) tt;
     numbers-differ = λ i j l m e. ap (λ (v : Slot). v .number) (slot-free i (omega arith));
     counts-agree = counts;
+    backs-bounded = λ i l. rw (slot-free i l) (omega arith);
     only-a-head-done = λ c l. subst Rest (sym (no-queue c l)) tt;
     working-cells-follow = λ c l. subst (λ (q : List Entry). Cells q (cellsOf base c) (cellsOf base c)) (sym (no-queue c l)) refl;
     kept-not-zero = λ n r. absurd (none-recent n r);

@@ -16,8 +16,8 @@ use Rattle.slots.specs.declared.Slot.{Slot}
 use Rattle.slots.specs.Meaning.{freeSlot, noSlot, slotAt}
 use Rattle.slots.specs.Rules.{Holds}
 use Rattle.store.specs.Store.{Shaped, Store}
-use Rattle.store.specs.Sound.{SlotsOk}
-use Rattle.store.specs.Checks.{Owned, Staged, Classed, Gathered, KeptOk, LaidIn, LaidOut, Unnumbered}
+use Rattle.store.specs.Sound.{BacksOk, SlotsOk}
+use Rattle.store.specs.Checks.{Owned, Staged, Classed, Gathered, KeptOk, LaidIn, LaidOut, SlotsIn, Unnumbered}
 use Rattle.store.specs.Checks.{classesOf, donesOf, idsOf, marksOf, nth, numbersOf}
 use Rattle.store.proofs.Canonical.{has-id}
 use Rattle.store.proofs.Once.{class-of}
@@ -96,6 +96,13 @@ module _ (l : List Slot) (numbers dones marks : List ℕ) (i : ℕ) (h : StagedT
 pub gathered : {l : List Slot} {ids classes numbers dones marks : List ℕ} → Owned l ids classes → Staged l numbers dones marks
     → Gathered l ids classes numbers dones marks
 gathered o g = (o, g)
+
+-- what the walk over the slots looks at are two rules: each is free or valid, and the counts of times put back are bounded
+pub slots-in : (s : Store) → SlotsOk s → BacksOk (s .slots) (s .confirmations) → SlotsIn (s .slots) (s .confirmations)
+slots-in s ok few i l = (ok i l, few i l)
+
+pub slots-ok : (s : Store) → SlotsIn (s .slots) (s .confirmations) → SlotsOk s × BacksOk (s .slots) (s .confirmations)
+slots-ok s h = ((λ i l. h i l .0), (λ i l. h i l .1))
 
 -- a free slot has no number
 unnumbered-of : (s : Store) → length (s .slots) ≡ 128 → SlotsOk s → Unnumbered (idsOf (s .slots)) (numbersOf (s .slots))

@@ -1,7 +1,7 @@
 -- The rules of a sound site say of the arrays what the theory's rules say of the plain queues, both ways. Assumes nothing.
 use Prim.Native.Nat.{ℕ, _<_, _≤_}
 use native.Mathlib.Omega.{arith}
-use mathlib.Core.Path.{_≡_, refl, sym, ap, _∙_}
+use mathlib.Core.Path.{_≡_, refl, sym, ap, _∙_, subst}
 use mathlib.Core.Logic.{_⊎_, inl, inr, _↔_}
 use mathlib.Core.Bool.{Bool, true, false, cond}
 use mathlib.Core.List.{List, [], _∷_}
@@ -18,9 +18,9 @@ use Rattle.slots.specs.Meaning.{freeSlot, entryOf, slotAt, isUsed}
 use Rattle.slots.specs.Rules.{Holds}
 use Rattle.store.specs.Store.{Store}
 use Rattle.store.specs.Meaning.{places, entries, queueOf, keptAt, plainClass, plain}
-use Rattle.store.specs.Sound.{Laid, Sound, Rest, Cells}
+use Rattle.store.specs.Sound.{Laid, Sound, Rest, Cells, times}
 use Rattle.store.specs.Checks.{Mine}
-use Rattle.store.proofs.Canonical.{has-id}
+use Rattle.store.proofs.Canonical.{has-class, has-id, stands-there}
 use Rattle.store.proofs.Once.{mine-of}
 use Rattle.store.proofs.Standing.{used-small, passing, standing-is}
 
@@ -35,6 +35,21 @@ cells-of (e ∷ q) base w h = h
 all-entries : (P : ℕ → Type 0) (Q : Entry → Type 0) (l : List Slot) → ((x : ℕ) → P x → Q (entryOf x (slotAt l x))) → (ps : List ℕ) → All P ps → All Q (entries l ps)
 all-entries P Q l f [] h = tt
 all-entries P Q l f (x ∷ ps) h = (f x (h .0), all-entries P Q l f ps (h .1))
+
+entry-of-all : (Q : Entry → Type 0) (l : List Slot) (i : ℕ) (ps : List ℕ) → All Q (entries l ps) → 0 < times i ps → Q (entryOf i (slotAt l i))
+entry-of-all Q l i [] h u = absurd (omega arith)
+entry-of-all Q l i (x ∷ ps) h u =
+    by-test (eqb x i)
+    (λ t. subst (λ (j : ℕ). Q (entryOf j (slotAt l j))) (eqb-true x i t) (h .0))
+    (λ f. entry-of-all Q l i ps (h .1) (rw f at u))
+
+-- what holds of every queued request holds of that in each slot with a record
+pub held-queued : (s : Store) → Laid s → (Q : Entry → Type 0) → ((c : ℕ) → c < 16 → All Q (queueOf s c)) → (i : ℕ) → Holds (slotAt (s .slots) i)
+    → Q (entryOf i (slotAt (s .slots) i))
+held-queued s h Q all i v =
+    let c = slotAt (s .slots) i .class in
+    let l = has-class (slotAt (s .slots) i) v in
+    entry-of-all Q (s .slots) i (places s c) (all c l) (omega (arith, h .exactly-once c i l, stands-there (slotAt (s .slots) i) v))
 
 -- a request with a number exactly if it has an id is not strange
 to-strange : (n i : ℕ) (e : Entry) → 0 < n → (e .number ≡ n) ↔ (idOf e ≡ i) → strange n i e ≡ false
@@ -119,6 +134,8 @@ module _ (s : Store) (n : length (s .slots) ≡ 128) (h : Laid s) where
           let a = number-at x j p in let b = number-at y j q in
           let z = r .numbers-differ x y l m (a .1 ∙ sym (b .1)) in omega (arith, a .0, a .1));
       tally = r .counts-agree;
+      backs = λ c l. all-entries (Mine s c) (λ e. e .backs ≤ s .confirmations) (s .slots)
+          (λ x m. r .backs-bounded x (used-small s n x (m .used))) (places s c) (mine-of s (h .exactly-once) c l);
       kept-not-zero = r .kept-not-zero;
       kept-differ = r .kept-differ;
       kept-queued = λ k l. standing-plain (strange k (keptAt s k)) ∙ sum-nothing (passing s n (strange k (keptAt s k))) 128 (λ i m.
@@ -148,6 +165,7 @@ module _ (s : Store) (n : length (s .slots) ≡ 128) (h : Laid s) where
           (rw (t, eq-eqb (slotAt (s .slots) y .number) (slotAt (s .slots) x .number) (sym e)))))
           (λ f. omega (arith, ltb-false 0 (slotAt (s .slots) x .number) f));
       counts-agree = r .tally;
+      backs-bounded = λ i l. few-backs i (h .free-or-valid i l);
       only-a-head-done = λ c l. cells-of (queueOf s c) _ _ (r .each c l .working) .1;
       working-cells-follow = λ c l. cells-of (queueOf s c) _ _ (r .each c l .working) .0;
       kept-not-zero = r .kept-not-zero;
@@ -159,6 +177,10 @@ module _ (s : Store) (n : length (s .slots) ≡ 128) (h : Laid s) where
           (λ f. f));
     }
       where
+        few-backs : (i : ℕ) → (slotAt (s .slots) i ≡ freeSlot) ⊎ Holds (slotAt (s .slots) i) → slotAt (s .slots) i .backs ≤ s .confirmations
+        few-backs i (inl e) = rw e (omega arith)
+        few-backs i (inr v) = held-queued s h (λ e. e .backs ≤ s .confirmations) (r .backs) i v
+
         free-id : (x : ℕ) → isUsed (slotAt (s .slots) x) ≡ false → slotAt (s .slots) x .id ≡ 0
         free-id x f = by-test (eqb (slotAt (s .slots) x .id) 0) (λ t. eqb-true _ 0 t) (λ g. no _ (rw g) f)
 

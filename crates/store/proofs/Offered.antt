@@ -53,7 +53,7 @@ not-done x k n r s l e =
 
 -- a new slot is the entry of an offer
 new-entry : (v : Slot) → New v → (i : ℕ) → entryOf i v ≡ K.newEntry (requestOf v) i
-new-entry v n i = λ k. record { request = requestOf v; slot = i; number = n .number k; done = n .done k; mark = n .mark k }
+new-entry v n i = λ k. record { request = requestOf v; slot = i; number = n .number k; done = n .done k; mark = n .mark k; backs = n .backs k }
 
 module _ (x : State) (w : Shaped (x .site)) (r : RightCells x) (q : SoundState x) (b : List ℕ) where
   abbrev s : Store

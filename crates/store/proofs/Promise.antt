@@ -41,6 +41,7 @@ same-sound a b e h = record {
   ids = λ j. rw (same-standing a b e (idIs j)) (h .ids j);
   numbers = λ j. rw (same-standing a b e (numberIs j)) (h .numbers j);
   tally = omega (arith, e .confirmations, e .commits, h .tally, same-standing a b e isConfirmed);
+  backs = λ c l. rw (e .class c l, e .confirmations) (h .backs c l);
   kept-not-zero = λ n r. rw (e .kept n r) (h .kept-not-zero n (there r));
   kept-differ = λ m n r q z. h .kept-differ m n (there r) (there q) (sym (e .kept m r) ∙ z ∙ e .kept n q);
   kept-queued = λ n r. rw (e .kept n r, same-standing a b e (strange n (b .kept n))) (h .kept-queued n (there r));

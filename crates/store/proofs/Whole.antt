@@ -9,7 +9,7 @@ use Rattle.store.proofs.Flat.{ordered, past-of, places-of, tails-of}
 use Rattle.store.proofs.KeptIds.{differ-of, apart-of}
 use Rattle.store.proofs.Tally.{queued-confirmed}
 use Rattle.store.specs.Checks.{CellsOk, Differ, KeptOk, LaidIn, PlacesIn, Tails, idsOf, numbered, numbersOf}
-use Rattle.store.specs.Sound.{Laid, Once, Short, SlotsOk, Sound, Unused}
+use Rattle.store.specs.Sound.{BacksOk, Laid, Once, Short, SlotsOk, Sound, Unused}
 use Rattle.store.specs.Store.{Shaped, Store}
 use Rattle.usedmap.specs.Flags.{usedOf}
 
@@ -19,13 +19,14 @@ module _ (s : Store) (w : Shaped s) where
 
   module _ (base wrk : List ℕ) where
     pub sound-of : Laid s → Differ (idsOf (s .slots)) (numbersOf (s .slots)) → PlacesIn s → s .commits ≤ s .confirmations → s .confirmations - s .commits ≡ numbered (numbersOf (s .slots)) 128 → CellsOk s base wrk
-        → KeptOk (idsOf (s .slots)) (numbersOf (s .slots)) (s .confirmations) (s .kept) → Sound s base wrk
-    sound-of h d p l n k ids = record {
+        → KeptOk (idsOf (s .slots)) (numbersOf (s .slots)) (s .confirmations) (s .kept) → BacksOk (s .slots) (s .confirmations) → Sound s base wrk
+    sound-of h d p l n k ids b = record {
       laid = h;
       ids-differ = d .ids;
       confirmed-before-waiting = λ c m. ordered s w (h .not-longer-than-128) c m p .0;
       numbers-differ = d .numbers;
       counts-agree = omega (arith, queued-confirmed s w (h .free-or-valid) (h .exactly-once));
+      backs-bounded = b;
       only-a-head-done = λ c m. ordered s w (h .not-longer-than-128) c m p .1;
       working-cells-follow = k;
       kept-not-zero = ids .filled .not-zero;
@@ -34,11 +35,12 @@ module _ (s : Store) (w : Shaped s) where
     }
 
     -- the same, of the rules that the check has together
-    pub sound-from : SlotsOk s → LaidIn s → CellsOk s base wrk → KeptOk (idsOf (s .slots)) (numbersOf (s .slots)) (s .confirmations) (s .kept) → Sound s base wrk
-    sound-from ok laid cells ids =
+    pub sound-from : SlotsOk s → LaidIn s → CellsOk s base wrk → KeptOk (idsOf (s .slots)) (numbersOf (s .slots)) (s .confirmations) (s .kept)
+        → BacksOk (s .slots) (s .confirmations) → Sound s base wrk
+    sound-from ok laid cells ids few =
         sound-of
         (laid-of ok (laid .short) (laid .tails) (agree-all (s .low) (s .high) (s .slots) (w .slots) (laid .map)) (laid .once) (ids .filled .unused))
-        (laid .differ) (laid .places) (omega (arith, laid .tally)) (omega (arith, laid .tally)) cells ids
+        (laid .differ) (laid .places) (omega (arith, laid .tally)) (omega (arith, laid .tally)) cells ids few
 
     module _ (h : Sound s base wrk) where
       pub tails-in : Tails (s .queue) (s .lens)

@@ -253,7 +253,7 @@ module _ (x : State) (w : Shaped (x .site)) (r : RightCells x) (q : SoundState x
               (λ j. record { queue = entries-kept (s .slots) i u (omega (arith, w .slots, small)) ps gone j; committed = own j; working = own j }) refl
 
           pub work-committed : v .count ≤ suc (v .done) → 0 < v .number → (t : Store) (base′ : List ℕ) → CommitDone (withSlot s i u) base wrk′ c t base′
-              → Did x k (record { site = t; committed = base′; working = wrk′ }) (K.committed (v .id) (v .number) (P.markOf tr) i)
+              → Did x k (record { site = t; committed = base′; working = wrk′ }) (K.committed (v .id) (v .number) (P.markOf tr) i (v .backs))
           work-committed h z t base′ d =
               let e : did ≡ K.commit (entryOf i u) rest cells = rw (long, le-leb (v .count) (suc (v .done)) h, lt-ltb 0 (v .number) z) in
               let o : S.call p k ≡ S.inClass p c none (K.commit (entryOf i u) rest cells) = outcome ∙ ap (S.inClass p c none) e in
@@ -300,8 +300,8 @@ module _ (x : State) (w : Shaped (x .site)) (r : RightCells x) (q : SoundState x
               (λ n m. record { laid = after-laid; class = l; some = has; cells = (r .0, right); count = omega (arith, commits-less n) })
 
           pub committed-as : z .count ≤ z .done → 0 < z .number → (t : Store) (base′ : List ℕ) → CommitDone (withSlot s i z) base wrk′ c t base′
-              → Did x k (record { site = t; committed = base′; working = wrk′ }) (K.committed (z .id) (z .number) (z .mark) i)
+              → Did x k (record { site = t; committed = base′; working = wrk′ }) (K.committed (z .id) (z .number) (z .mark) i (z .backs))
           committed-as =
               subst (λ (z : Slot). z .count ≤ z .done → 0 < z .number → (t : Store) (base′ : List ℕ) → CommitDone (withSlot s i z) base wrk′ c t base′
-              → Did x k (record { site = t; committed = base′; working = wrk′ }) (K.committed (z .id) (z .number) (z .mark) i)) (sym is)
+              → Did x k (record { site = t; committed = base′; working = wrk′ }) (K.committed (z .id) (z .number) (z .mark) i (z .backs))) (sym is)
               (work-committed wrk′ own others right)

@@ -1,7 +1,7 @@
 -- What the walk over the queues looks at. Assumes nothing.
 use Prim.Native.Nat.{ℕ, _+_, _*_, _-_, _%_, _<_, _≤_}
 use mathlib.Core.Path.{_≡_}
-use mathlib.Core.Logic.{_↔_}
+use mathlib.Core.Logic.{_⊎_, _↔_}
 use mathlib.Core.Bool.{true, false, cond, not, _&&_}
 use mathlib.Core.List.{List}
 use lib.Dec.{eqb}
@@ -10,7 +10,7 @@ use Rattle.places.specs.Moves.{part}
 use Rattle.plain.specs.Sizes.{classCount, slotCount, keptCount}
 use Rattle.plain.specs.Site.{sum, Recent}
 use Rattle.plain.specs.Sound.{All, Head}
-use Rattle.slots.specs.Meaning.{entryOf, isUsed, slotAt}
+use Rattle.slots.specs.Meaning.{entryOf, freeSlot, isUsed, slotAt}
 use Rattle.slots.specs.Rules.{Holds}
 use Rattle.slots.specs.Steps.{Follows}
 use Rattle.slots.specs.declared.Slot.{Slot}
@@ -66,6 +66,10 @@ marksOf l i = slotAt l i .mark
 -- what stands at a place of a list, 0 past its end
 abbrev pub nth : List ℕ → ℕ → ℕ
 nth l i = getD l i 0
+
+-- each slot is free and all zero, or holds a valid record, and its count of times put back is not above `top`
+abbrev pub SlotsIn : List Slot → ℕ → Type 0
+SlotsIn l top = (i : ℕ) → i < slotCount → ((slotAt l i ≡ freeSlot) ⊎ Holds (slotAt l i)) × (slotAt l i .backs ≤ top)
 
 -- lists that hold the fields of the slots: id and class; how far their requests have come; both
 pub record Owned (l : List Slot) (ids classes : List ℕ) : Type 0 where

@@ -31,6 +31,10 @@ stands c v = cond (isUsed v && eqb (v .class) c) 1 0
 abbrev pub SlotsOk : Store → Type 0
 SlotsOk s = (i : ℕ) → i < slotCount → (slotAt (s .slots) i ≡ freeSlot) ⊎ Holds (slotAt (s .slots) i)
 
+-- no count of times put back is above `top`; a free slot's is 0
+abbrev pub BacksOk : List Slot → ℕ → Type 0
+BacksOk l top = (i : ℕ) → i < slotCount → slotAt l i .backs ≤ top
+
 -- no queue is longer than 128
 abbrev pub Short : List ℕ → Type 0
 Short lens = (c : ℕ) → c < classCount → getD lens c 0 ≤ slotCount
@@ -81,6 +85,8 @@ pub record Sound (s : Store) (base wrk : List ℕ) : Type 0 where
   pub numbers-differ : Apart slotCount (λ i. slotAt (s .slots) i .number)
   -- the count of confirmations equals the count of commits plus the confirmed requests queued
   pub counts-agree : s .confirmations ≡ s .commits + sum (λ c. count isConfirmed (queueOf s c)) classCount
+  -- no count of times put back is above the count of confirmations
+  pub backs-bounded : BacksOk (s .slots) (s .confirmations)
   pub only-a-head-done : (c : ℕ) → c < classCount → Rest (queueOf s c)
   pub working-cells-follow : (c : ℕ) → c < classCount → Cells (queueOf s c) (cellsOf base c) (cellsOf wrk c)
   -- kept ids are not 0

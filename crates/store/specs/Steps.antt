@@ -6,7 +6,7 @@ use mathlib.Core.List.{List, map}
 use Rattle.slots.specs.Steps.{triedBy, afterStep, Marked}
 use Rattle.places.specs.Moves.{Moved}
 use lib.ListN.{length, getD, drop, set}
-use Rattle.plain.specs.Sizes.{keptCount}
+use Rattle.plain.specs.Sizes.{keptCount, wideWord}
 use Rattle.plain.specs.Ops.{Ran, leaves}
 use Rattle.plain.specs.Queue as Q
 use Rattle.plain.specs.Steps as K
@@ -73,12 +73,20 @@ pub record Countable (s : Store) (c : ℕ) : Type 0 where
   pub ids : Apart 128 (λ i. slotAt (s .slots) i .id)
   pub within : (p : ℕ) → p < lenOf s c → slotAt (s .slots) (getD (s .queue) (128 * c + p) 0) .done ≤ slotAt (s .slots) (getD (s .queue) (128 * c + p) 0) .count
 
--- a slot with its number, and a slot put back: nothing done, not declined
+-- a slot with its number, and a slot put back: nothing done, not declined, put back once more
 abbrev pub withNumber : ℕ → Slot → Slot
-withNumber n v = record { id = v .id; class = v .class; count = v .count; ops = v .ops; number = n; done = v .done; mark = v .mark }
+withNumber n v = record { id = v .id; class = v .class; count = v .count; ops = v .ops; number = n; done = v .done; mark = v .mark; backs = v .backs }
 
 abbrev pub asPutBack : Slot → Slot
-asPutBack v = record { id = v .id; class = v .class; count = v .count; ops = v .ops; number = v .number; done = 0; mark = 0 }
+asPutBack v = record { id = v .id; class = v .class; count = v .count; ops = v .ops; number = v .number; done = 0; mark = 0; backs = v .backs + 1 }
+
+-- class c has a head that may be put back: one more fits its count
+pub record Backable (s : Store) (base wrk : List ℕ) (c : ℕ) : Type 0 where
+  pub laid : Laid s
+  pub class : c < 16
+  pub some : 0 < lenOf s c
+  pub cells : (length base ≡ 1024) × (length wrk ≡ 1024)
+  pub fits : slotAt (s .slots) (headSlot s c) .backs + 1 < wideWord
 
 -- class c's head is put back: its slot, and the working cells of the class
 pub record PutBack (s : Store) (base wrk : List ℕ) (c : ℕ) (t : Store) (wrk′ : List ℕ) : Type 0 where

@@ -107,6 +107,7 @@ module _ (v : Slot) (seven : length (v .ops) ≡ mostOps) (new : New v) where
         number = sym (new .number) i;
         done = sym (new .done) i;
         mark = sym (new .mark) i;
+        backs = sym (new .backs) i;
       }
 
   spare : SpareZero (recordBytes v)
@@ -227,6 +228,7 @@ slotOf r = record {
   number = 0;
   done = 0;
   mark = 0;
+  backs = 0;
 }
 
 struct-of : (o : Op) → OpOk o → structOf (opOf o) ≡ o
@@ -261,6 +263,7 @@ slot-of v seven new =
       number = new .number i;
       done = new .done i;
       mark = new .mark i;
+      backs = new .backs i;
     }
 
 -- a record has the bytes of the slot of its request
@@ -272,7 +275,7 @@ record-is b e =
     let small = all-of-map (λ x. ltb x 256) (λ y. y ≡ true) b (all-true (map (λ x. ltb x 256) b) (t .1 .0)) in
     let bytes : Bytes b = λ i l. ltb-true _ _ (all-at (λ x. ltb x 256 ≡ true) 0 b small i l) in
     let d = decides-record b bytes long .yes e in
-    let new : New (slotIn b) = record { held = d .1; number = refl; done = refl; mark = refl } in
+    let new : New (slotIn b) = record { held = d .1; number = refl; done = refl; mark = refl; backs = refl } in
     sym (rebuilt b bytes long (d .0))
     ∙ ap recordBytes (slot-of (slotIn b) (ops-long b 0 mostOps) new ∙ ap slotOf (same-request b (d .1 .count)))
 

@@ -112,7 +112,7 @@ module _ (text : List ℕ) (id class : ℕ) (ops : List Op) (at k : ℕ) (h : So
 
   -- all is read
   abbrev slot : Slot
-  slot = record { id = id; class = class; count = k; ops = ops; number = 0; done = 0; mark = 0 }
+  slot = record { id = id; class = class; count = k; ops = ops; number = 0; done = 0; mark = 0; backs = 0 }
 
   whole : length text ≤ at → text ≡ textOf (requestOf slot)
   unfolding textOf meant
@@ -129,6 +129,7 @@ module _ (text : List ℕ) (id class : ℕ) (ops : List Op) (at k : ℕ) (h : So
         number = refl;
         done = refl;
         mark = refl;
+        backs = refl;
       } in
       record {
         long = λ y. ap (λ (x : Slot). length (x .ops)) (e .1) ∙ h .long;

@@ -117,6 +117,7 @@ pub fn parse(text: &[u8]) -> Parsed
         number: 0,
         done: 0,
         mark: 0,
+        backs: 0,
     };
     good(slot)
 }

@@ -5,6 +5,8 @@ use shpendorak::raw::{self, ADD, KEPT, MOST_OPS, MOVE, NEED, NUMBERS, Numbers, P
 
 /// What ids confirmed before are above.
 const OLD_IDS: u64 = 1 << 30;
+/// How often the request in slot 0 was put back already; that in each next slot once more.
+const OLD_BACKS: u64 = 0x0403_0201;
 /// Bits of a byte.
 const BYTE: usize = u8::BITS as usize;
 
@@ -154,7 +156,7 @@ impl Hosted {
         self.check(raw::QUEUED);
     }
 
-    /// Confirms the request of a slot; it gets its number and stays where it is.
+    /// Confirms the request of a slot; it gets its number, and no more is noted.
     pub fn confirm(&mut self, slot: usize, number: u32) {
         let (c, w) = (self.committed.as_mut_ptr(), self.working.as_mut_ptr());
         let (id, answer) = (id_of(slot).into(), &mut self.answer);
@@ -167,6 +169,15 @@ impl Hosted {
         self.should(site::confirmations(), number.into());
         self.should(kept(number), id_of(slot).into());
         self.check(raw::WAITING);
+    }
+
+    /// Confirms the second request of a class, in a slot: it becomes the head, and the one that was
+    /// is put back once more.
+    pub fn overtake(&mut self, head: usize, slot: usize, class: usize, number: u32) {
+        self.should(place(class, 0), slot as u64);
+        self.should(place(class, 1), head as u64);
+        self.should(slot::backs().from(start_of(head)), OLD_BACKS + head as u64 + 1);
+        self.confirm(slot, number);
     }
 
     /// Works once for a class; what changes is noted by the caller.
@@ -208,6 +219,11 @@ impl Hosted {
         for number in count - KEPT as u32 + 1..=count {
             self.put(kept(number), OLD_IDS + u64::from(number));
         }
+    }
+
+    /// Gives the request of a slot its times put back by hand.
+    pub fn put_backs(&mut self, slot: usize) {
+        self.put(slot::backs().from(start_of(slot)), OLD_BACKS + slot as u64);
     }
 
     /// Puts a number into a field, in the site and in what it should be.

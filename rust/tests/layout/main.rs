@@ -36,3 +36,28 @@ fn numbers_counts_done_and_mark_are_where_the_table_says() {
         hosted.work_off(slot, class, SLOTS - slot, count + 1 + slot as u32);
     }
 }
+
+/// Of each two neighbours the second overtakes the first: in every even slot, then in every odd one.
+#[test]
+fn times_put_back_are_where_the_table_says() {
+    let (class, count) = (9, 0x0D0C_0B0A);
+    for first in 0..2 {
+        let mut hosted = Hosted::fresh();
+        hosted.raise_counts(count);
+        for slot in 0..SLOTS {
+            hosted.offer(slot, class);
+            hosted.put_backs(slot);
+        }
+        let mut order: Vec<usize> = (0..SLOTS).collect();
+        order[first..].chunks_exact_mut(2).for_each(|pair| pair.reverse());
+        for (done, slot) in order.into_iter().enumerate() {
+            let number = count + 1 + done as u32;
+            if slot > done {
+                hosted.overtake(done, slot, class, number);
+            } else {
+                hosted.confirm(slot, number);
+            }
+            hosted.work_off(slot, class, SLOTS - done, number);
+        }
+    }
+}

@@ -58,11 +58,14 @@ macro_rules! table {
 }
 
 table!(op, Op, 8, code 0 1, cell 1 1, second 2 1, amount 4 4,);
-table!(slot, Slot, 72, id 0 4, class 4 1, count 5 1, ops 8 56, number 64 4, done 68 1, mark 69 1,);
 table!(
-    site, Site, 12_328,
-    slots 0 9_216, queue 9_216 2_048, lens 11_264 16, low 11_280 8, high 11_288 8,
-    confirmations 11_296 4, commits 11_300 4, kept 11_304 1_024,
+    slot, Slot, 80,
+    id 0 4, class 4 1, count 5 1, ops 8 56, number 64 4, done 68 1, mark 69 1, backs 72 8,
+);
+table!(
+    site, Site, 13_352,
+    slots 0 10_240, queue 10_240 2_048, lens 12_288 16, low 12_304 8, high 12_312 8,
+    confirmations 12_320 4, commits 12_324 4, kept 12_328 1_024,
 );
 
 /// Where a slot's struct starts.

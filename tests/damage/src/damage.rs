@@ -4,6 +4,7 @@ use crate::aim::{HALF, age};
 use crate::plain::{from_plain, to_plain};
 use crate::rules::Rule;
 use crate::subject::{FIELDS, Field, Subject, field_of};
+use crate::view::is_used;
 use model::craft;
 use model::random::Random;
 use shpendorak::raw::{MOST_OPS, RUN_LENGTH, SLOTS};
@@ -71,24 +72,28 @@ fn take_field(subject: &mut Subject, other: &mut Subject, field: &Field) {
     }
 }
 
-/// Both counts raised alike, up to or near the last number, with other ids kept: a sound site mostly
-/// stays sound.
+/// Both counts and all times put back raised alike, up to or near the last number, with other ids
+/// kept: a sound site mostly stays sound.
 pub fn late(random: &mut Random, base: &Subject) -> Damaged {
     let mut subject = base.clone();
     let room = u32::MAX - subject.site.confirmations.max(subject.site.commits);
     let raise = room.saturating_sub(random.pick(&[0, 1, 2]));
     age(random, &mut subject.site, raise);
-    Damaged { subject, how: format!("both counts raised by {raise}, other ids kept") }
+    for slot in subject.site.slots.iter_mut().filter(|slot| is_used(slot)) {
+        slot.backs += u64::from(raise);
+    }
+    Damaged { subject, how: format!("all counts raised by {raise}, other ids kept") }
 }
 
-/// Another sound site: slots change their names, requests with nothing done get other operations,
-/// and cells that nothing was done on get other values.
+/// Another sound site: slots change their names, requests were put back as often as may be, those
+/// with nothing done get other operations, and cells that nothing was done on get other values.
 pub fn still_sound(random: &mut Random, base: &Subject) -> Damaged {
     let mut plain = to_plain(base);
     let turn = random.below(SLOTS);
     for class in &mut plain.classes {
         for entry in &mut class.queue {
             entry.slot = ((usize::from(entry.slot) + turn) % SLOTS) as u8;
+            entry.backs = random.pick(&[0, entry.backs, plain.confirmations.into()]);
             if entry.done == 0 {
                 let (id, count) = (entry.request.id, 1 + random.below(MOST_OPS));
                 entry.request = craft::request(random, id, entry.request.class, count);

@@ -36,6 +36,7 @@ fn entry_of(slot: &Slot, number: u8) -> Entry {
         number: (slot.number != 0).then_some(slot.number),
         done: usize::from(slot.done),
         mark: usize::from(slot.mark),
+        backs: slot.backs,
     }
 }
 
@@ -90,6 +91,7 @@ fn slot_of(entry: &Entry) -> Slot {
         number: entry.number.unwrap_or(0),
         done: entry.done as u8,
         mark: entry.mark as u8,
+        backs: entry.backs,
         ..Slot::default()
     };
     for (op, raw) in entry.request.ops.iter().zip(&mut slot.ops) {
@@ -111,23 +113,21 @@ fn raw_op(op: Op) -> raw::Op {
 /// An answer of the model as the six numbers of the archive.
 pub fn numbers(answer: Answer) -> Numbers {
     let wide = |number: usize| number as u64;
-    let said: [u64; 5] = match answer {
+    match answer {
         Answer::Queued { id, class, place, slot } => {
-            [raw::QUEUED, id.into(), class.into(), wide(place), slot.into()]
+            [raw::QUEUED, id.into(), class.into(), wide(place), slot.into(), 0]
         }
-        Answer::Stepped { id, done } => [raw::STEPPED, id.into(), wide(done), 0, 0],
-        Answer::Executed { id } => [raw::EXECUTED, id.into(), 0, 0, 0],
-        Answer::Committed { id, number, mark, slot } => {
-            [raw::COMMITTED, id.into(), number.into(), wide(mark), slot.into()]
+        Answer::Stepped { id, done } => [raw::STEPPED, id.into(), wide(done), 0, 0, 0],
+        Answer::Executed { id } => [raw::EXECUTED, id.into(), 0, 0, 0, 0],
+        Answer::Committed { id, number, mark, slot, backs } => {
+            [raw::COMMITTED, id.into(), number.into(), wide(mark), slot.into(), backs]
         }
         Answer::Waiting { id, w, put_back } => {
-            [raw::WAITING, id.into(), wide(w), put_back.into(), 0]
+            [raw::WAITING, id.into(), wide(w), put_back.into(), 0, 0]
         }
-        Answer::Value(cell) => [raw::VALUE, cell.into(), 0, 0, 0],
-        Answer::ToDo(w) => [raw::TO_DO, wide(w), 0, 0, 0],
-        Answer::Unconfirmed => [raw::UNCONFIRMED, 0, 0, 0, 0],
-        Answer::Refused(number) => [raw::REFUSED, number.into(), 0, 0, 0],
-    };
-    let [what, first, second, third, fourth] = said;
-    [what, first, second, third, fourth, 0]
+        Answer::Value(cell) => [raw::VALUE, cell.into(), 0, 0, 0, 0],
+        Answer::ToDo { w, backs } => [raw::TO_DO, wide(w), backs, 0, 0, 0],
+        Answer::Unconfirmed { backs } => [raw::UNCONFIRMED, backs, 0, 0, 0, 0],
+        Answer::Refused(number) => [raw::REFUSED, number.into(), 0, 0, 0, 0],
+    }
 }

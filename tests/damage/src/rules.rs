@@ -26,7 +26,7 @@ pub struct Rule {
 }
 
 /// Every sound rule, in document 01's order; a new rule is a new row.
-pub static RULES: [Rule; 30] = [
+pub static RULES: [Rule; 31] = [
     Rule {
         words: "a free slot is all zero",
         holds: records::free_slots_are_zero,
@@ -117,6 +117,11 @@ pub static RULES: [Rule; 30] = [
         words: "that count is the commits plus the confirmed queued",
         holds: numbers::counts_agree,
         breach: numbers::commits_wrong,
+    },
+    Rule {
+        words: "no count of times put back is above that count",
+        holds: numbers::backs_are_counted,
+        breach: numbers::backs_above_count,
     },
     Rule {
         words: "none has more done than it has operations",

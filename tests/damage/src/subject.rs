@@ -66,7 +66,7 @@ pub struct Field {
 const OPS: usize = SLOTS * MOST_OPS;
 
 /// Every number of a subject; a new field of the site is a new row.
-pub static FIELDS: [Field; 19] = [
+pub static FIELDS: [Field; 20] = [
     Field { name: "id", count: SLOTS, spot: |s, at| Spot::Word(&mut s.site.slots[at].id) },
     Field { name: "class", count: SLOTS, spot: |s, at| Spot::Byte(&mut s.site.slots[at].class) },
     Field { name: "count", count: SLOTS, spot: |s, at| Spot::Byte(&mut s.site.slots[at].count) },
@@ -77,6 +77,7 @@ pub static FIELDS: [Field; 19] = [
     Field { name: "number", count: SLOTS, spot: |s, at| Spot::Word(&mut s.site.slots[at].number) },
     Field { name: "done", count: SLOTS, spot: |s, at| Spot::Byte(&mut s.site.slots[at].done) },
     Field { name: "mark", count: SLOTS, spot: |s, at| Spot::Byte(&mut s.site.slots[at].mark) },
+    Field { name: "backs", count: SLOTS, spot: |s, at| Spot::Long(&mut s.site.slots[at].backs) },
     Field { name: "place", count: PLACES, spot: |s, at| Spot::Byte(&mut s.site.queue[at]) },
     Field { name: "length", count: CLASSES, spot: |s, at| Spot::Byte(&mut s.site.lens[at]) },
     Field { name: "low", count: 1, spot: |s, _| Spot::Long(&mut s.site.low) },

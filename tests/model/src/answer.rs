@@ -34,16 +34,16 @@ pub enum Answer {
     /// The waiting head did its last operation.
     Executed { id: u32 },
     /// The request committed and its slot is free; the mark is the place of the operation that
-    /// declined first, from 1, or 0.
-    Committed { id: u32, number: u32, mark: usize, slot: u8 },
+    /// declined first, from 1, or 0; it was put back so often.
+    Committed { id: u32, number: u32, mark: usize, slot: u8, backs: u64 },
     /// The request is confirmed and commits at the w-th work call; 0 if none was put back.
     Waiting { id: u32, w: usize, put_back: u32 },
     /// The committed cell.
     Value(u32),
-    /// The work calls still needed by a confirmed request.
-    ToDo(usize),
-    /// The request is queued and not confirmed.
-    Unconfirmed,
+    /// The work calls still needed by a confirmed request, and how often it was put back.
+    ToDo { w: usize, backs: u64 },
+    /// The request is queued and not confirmed; it was put back so often.
+    Unconfirmed { backs: u64 },
     /// The call did not act.
     Refused(u8),
 }

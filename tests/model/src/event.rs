@@ -116,7 +116,7 @@ pub fn word_of(answer: &Answer) -> usize {
         Answer::Waiting { .. } => 4,
         Answer::Value(_) => 5,
         Answer::Refused(_) => 6,
-        Answer::ToDo(_) | Answer::Unconfirmed => unreachable!("look has no event"),
+        Answer::ToDo { .. } | Answer::Unconfirmed { .. } => unreachable!("look has no event"),
     }
 }
 
@@ -127,11 +127,13 @@ pub fn line(place: u64, answer: &Answer) -> String {
         Answer::Queued { id, class, place, slot } => format!("{id} {class} {place} {slot}"),
         Answer::Stepped { id, done } => format!("{id} {done}"),
         Answer::Executed { id } => id.to_string(),
-        Answer::Committed { id, number, mark, slot } => format!("{id} {number} {mark} {slot}"),
+        Answer::Committed { id, number, mark, slot, backs } => {
+            format!("{id} {number} {mark} {slot} {backs}")
+        }
         Answer::Waiting { id, w, put_back } => format!("{id} {w} {put_back}"),
         Answer::Value(cell) => cell.to_string(),
         Answer::Refused(number) => number.to_string(),
-        Answer::ToDo(_) | Answer::Unconfirmed => unreachable!("look has no event"),
+        Answer::ToDo { .. } | Answer::Unconfirmed { .. } => unreachable!("look has no event"),
     };
     format!("{place} {word} {numbers}\n")
 }

@@ -16,7 +16,7 @@ usage: model run [checked]                               events in, lines out
        model events                                      typed lines in, events out
        model compare PROGRAM [STREAMS] [LENGTH] [SEED]   hold a program against the model";
 
-/// Streams compared where no number is given: twenty of each kind.
+/// Streams compared where no number is given, the kinds in turn.
 const STREAMS: u64 = 220;
 /// Events in each stream where no length is given.
 const LENGTH: u64 = 2_000;

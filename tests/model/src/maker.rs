@@ -4,7 +4,7 @@ use crate::craft::{self, Damage, DAMAGES, ODD_CELLS, ODD_CLASSES};
 use crate::event::{Event, CONFIRM, OFFER, READ, WORK};
 use crate::random::Random;
 use crate::record::{self, CLASSES, CLASS_AT, MAX_OPS, RECORD_BYTES};
-use crate::site::{Entry, Site, KEPT};
+use crate::site::{Class, Entry, Site, KEPT};
 
 /// How many ids are used where ids are few: somewhat more than are kept.
 const FEW_IDS: u32 = 320;
@@ -180,8 +180,8 @@ impl Maker {
     /// The id of a queued request that the test allows.
     fn queued_id(&mut self, allows: fn(&Entry) -> bool) -> Option<u32> {
         let allowed = self.site.entries().filter(|entry| allows(entry));
-        let ids: Vec<u32> = allowed.map(|entry| entry.request.id).collect();
-        (!ids.is_empty()).then(|| self.random.pick(&ids))
+        let ids = allowed.map(|entry| entry.request.id).collect();
+        self.one_of(ids)
     }
 
     /// A confirm with the right number of a waiting request; mostly an offer if none waits.
@@ -199,8 +199,24 @@ impl Maker {
     fn waiting_head(&mut self) -> Option<u32> {
         let heads = self.site.classes.iter().filter_map(|class| class.queue.first());
         let waiting = heads.filter(|head| head.number.is_none());
-        let ids: Vec<u32> = waiting.map(|head| head.request.id).collect();
+        let ids = waiting.map(|head| head.request.id).collect();
+        self.one_of(ids)
+    }
+
+    /// One of these ids, if there are any.
+    fn one_of(&mut self, ids: Vec<u32>) -> Option<u32> {
         (!ids.is_empty()).then(|| self.random.pick(&ids))
+    }
+
+    /// A confirm of the last of two or more that wait in a queue; an offer if nowhere as many do.
+    pub fn confirm_last(&mut self) -> Event {
+        let tails = self.site.classes.iter().filter_map(|class| class.queue.last_chunk());
+        let waiting = tails.filter(|two: &&[Entry; 2]| two.iter().all(|e| e.number.is_none()));
+        let ids = waiting.map(|[_, last]| last.request.id).collect();
+        match self.one_of(ids) {
+            Some(id) => self.confirm_as(id, self.site.confirmations.wrapping_add(1)),
+            None => self.offer(),
+        }
     }
 
     /// A confirm whose number or id is mostly wrong.
@@ -227,11 +243,7 @@ impl Maker {
 
     /// A work call for a class with work to do; mostly a confirm if there is none.
     pub fn work(&mut self) -> Event {
-        let busy: Vec<u8> = (0u8..)
-            .zip(&self.site.classes)
-            .filter(|(_, class)| class.queue.first().is_some_and(|head| !head.is_executed()))
-            .map(|(number, _)| number)
-            .collect();
+        let busy = self.busy();
         let class = if self.random.chance(USELESS_CALLS) {
             self.random.pick(&self.habits.classes)
         } else if busy.is_empty() {
@@ -240,6 +252,13 @@ impl Maker {
             self.random.pick(&busy)
         };
         Event { class, ..self.event(WORK) }
+    }
+
+    /// The classes with work to do.
+    pub fn busy(&self) -> Vec<u8> {
+        let classes = (0..).zip(&self.site.classes);
+        let works = |class: &Class| class.queue.first().is_some_and(|head| !head.is_executed());
+        classes.filter(|(_, class)| works(class)).map(|(number, _)| number).collect()
     }
 
     /// A read of a usual class and cell.

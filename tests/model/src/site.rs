@@ -25,6 +25,8 @@ pub struct Entry {
     pub done: usize,
     /// The place of the first of its done operations that declined, from 1; 0 if none did.
     pub mark: usize,
+    /// How often it was put back since its offer.
+    pub backs: u64,
 }
 
 impl Entry {
@@ -87,7 +89,7 @@ impl Site {
         };
         let (id, class) = (request.id, request.class);
         let queue = &mut self.classes[usize::from(class)].queue;
-        queue.push(Entry { request, slot, number: None, done: 0, mark: 0 });
+        queue.push(Entry { request, slot, number: None, done: 0, mark: 0, backs: 0 });
         Answer::Queued { id, class, place: queue.len(), slot }
     }
 
@@ -148,14 +150,16 @@ impl Site {
         Answer::Value(self.classes[usize::from(class)].committed[usize::from(cell)])
     }
 
-    /// Answers how many work calls a confirmed request still needs.
+    /// Answers how many work calls a confirmed request still needs, and how often any was put back.
     pub fn look(&self, id: u32) -> Answer {
         let Some((class, at)) = self.find(id) else {
             return Answer::Refused(ID_NOT_QUEUED);
         };
-        match self.classes[class].queue[at].number {
-            Some(_) => Answer::ToDo(self.classes[class].to_do_up_to(at)),
-            None => Answer::Unconfirmed,
+        let class = &self.classes[class];
+        let Entry { number, backs, .. } = class.queue[at];
+        match number {
+            Some(_) => Answer::ToDo { w: class.to_do_up_to(at), backs },
+            None => Answer::Unconfirmed { backs },
         }
     }
 
@@ -200,8 +204,8 @@ impl Site {
         let head = class.queue.remove(0);
         class.committed = class.working;
         self.commits += 1;
-        let (id, mark, slot) = (head.request.id, head.mark, head.slot);
-        Answer::Committed { id, number, mark, slot }
+        let Entry { request, slot, mark, backs, .. } = head;
+        Answer::Committed { id: request.id, number, mark, slot, backs }
     }
 }
 
@@ -225,6 +229,7 @@ impl Class {
         }
         head.done = 0;
         head.mark = 0;
+        head.backs += 1;
         self.working = self.committed;
         head.request.id
     }

@@ -15,7 +15,7 @@ const SPAN: u64 = 1 << 32;
 type Rule = (fn(&Site) -> bool, &'static str);
 
 /// The sound rules; a later one may count on those before it.
-const RULES: [Rule; 20] = [
+const RULES: [Rule; 21] = [
     (|site| site.classes.len() == CLASSES, "there are 16 classes"),
     (|site| site.entries().all(is_valid), "each record is valid"),
     (|site| site.classes.iter().all(short_enough), "no queue is longer than 128"),
@@ -27,6 +27,7 @@ const RULES: [Rule; 20] = [
     (|site| differ(site.numbers()), "confirmed numbers differ over the whole site"),
     (Site::numbers_within_count, "confirmed numbers lie between 1 and the count"),
     (Site::counts_agree, "confirmations are commits plus confirmed requests queued"),
+    (Site::backs_within_count, "none was put back more often than there were confirmations"),
     (|site| site.entries().all(done_within_ops), "none has more done than operations"),
     (|site| site.classes.iter().all(only_head_active), "only a head has anything done"),
     (|site| site.classes.iter().all(confirmed_head_open), "a confirmed head is not executed"),
@@ -75,6 +76,11 @@ impl Site {
     fn counts_agree(&self) -> bool {
         let total = u64::from(self.commits) + self.numbers().count() as u64;
         u64::from(self.confirmations) == total
+    }
+
+    /// No request was put back more often than there were confirmations.
+    fn backs_within_count(&self) -> bool {
+        self.entries().all(|entry| entry.backs <= self.confirmations.into())
     }
 
     /// As many ids are kept as numbers were given, at most 256.

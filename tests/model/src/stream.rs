@@ -27,6 +27,8 @@ pub enum Kind {
     Ids,
     /// Short requests that come and go, and ids confirmed before offered again.
     Again,
+    /// Requests that came last are confirmed first, so that a waiting head is put back often.
+    Overtaken,
     /// Sensible traffic whose last event is cut short.
     Tails,
     /// Unknown kinds among sensible traffic.
@@ -36,7 +38,7 @@ pub enum Kind {
 }
 
 /// All kinds with their names; the first is the one that covers most alone.
-pub const KINDS: [(Kind, &str); 12] = [
+pub const KINDS: [(Kind, &str); 13] = [
     (Kind::Mixed, "mixed"),
     (Kind::Sensible, "sensible"),
     (Kind::Numbers, "numbers"),
@@ -46,13 +48,14 @@ pub const KINDS: [(Kind, &str); 12] = [
     (Kind::Single, "single"),
     (Kind::Ids, "ids"),
     (Kind::Again, "again"),
+    (Kind::Overtaken, "overtaken"),
     (Kind::Tails, "tails"),
     (Kind::Unknown, "unknown"),
     (Kind::Random, "random"),
 ];
 
 /// The kinds that pieces of a mixed stream have.
-const PIECES: [Kind; 10] = [
+const PIECES: [Kind; 11] = [
     Kind::Sensible,
     Kind::Numbers,
     Kind::Damaged,
@@ -61,6 +64,7 @@ const PIECES: [Kind; 10] = [
     Kind::Single,
     Kind::Ids,
     Kind::Again,
+    Kind::Overtaken,
     Kind::Unknown,
     Kind::Random,
 ];
@@ -73,6 +77,10 @@ const GATHER_TURN: usize = 300;
 
 /// Over how many classes a full house may be spread.
 const FULL_SPREADS: [usize; 4] = [1, 2, 5, CLASSES];
+/// Over how many classes requests that are overtaken may be spread.
+const OVERTAKEN_SPREADS: [usize; 2] = [1, 2];
+/// Out of a hundred events that overtake, how many are sensible traffic.
+const STRAY: usize = 2;
 /// Out of a hundred full houses, how many have long requests only.
 const FULL_LONG: usize = 50;
 /// Out of a hundred events of a full house, how many offer a queued id again.
@@ -136,6 +144,7 @@ impl Stream {
         let spread = match kind {
             Kind::Single => 1,
             Kind::Full => self.maker.random.pick(&FULL_SPREADS),
+            Kind::Overtaken => self.maker.random.pick(&OVERTAKEN_SPREADS),
             _ => CLASSES,
         };
         let mut classes = all_classes();
@@ -143,7 +152,8 @@ impl Stream {
             classes.swap_remove(self.maker.random.below(classes.len()));
         }
         let long = kind == Kind::Full && self.maker.random.chance(FULL_LONG);
-        Habits { classes, few_ids: kind == Kind::Ids, long, short: kind == Kind::Again }
+        let short = matches!(kind, Kind::Again | Kind::Overtaken);
+        Habits { classes, few_ids: kind == Kind::Ids, long, short }
     }
 
     /// The next event of a kind.
@@ -153,6 +163,7 @@ impl Stream {
             Kind::Mixed => self.mixed(),
             Kind::Full => self.full_house(),
             Kind::Again => self.again(),
+            Kind::Overtaken => self.overtaken(),
             Kind::Numbers if special => self.maker.confirm_wrong(),
             Kind::Damaged if special => self.maker.offer_broken(),
             Kind::Odd if special => self.maker.odd(),
@@ -185,6 +196,19 @@ impl Stream {
             return self.maker.offer_confirmed();
         }
         self.maker.traffic(PASSING)
+    }
+
+    /// Short requests, of which the last that came is confirmed first.
+    fn overtaken(&mut self) -> Event {
+        if self.maker.random.chance(STRAY) {
+            return self.sensible();
+        }
+        let works = !self.maker.busy().is_empty();
+        match self.maker.random.below(5) {
+            0 => self.maker.offer(),
+            1..=3 if works => self.maker.work(),
+            _ => self.maker.confirm_last(),
+        }
     }
 
     /// Traffic that fills the site and keeps it full.

@@ -5,6 +5,9 @@ use crate::event::{word_of, WORDS};
 use crate::record::MAX_OPS;
 use std::io::{self, Write};
 
+/// What commits are called by how often they were put back.
+const BACKS: [&str; 3] = ["never put back", "put back once", "put back again"];
+
 /// How often each answer occurred.
 #[derive(Clone, Debug, Default)]
 pub struct Tally {
@@ -16,10 +19,14 @@ pub struct Tally {
     refusals: [u64; ID_KEPT as usize + 1],
     /// How many commits had each mark.
     marks: [u64; MAX_OPS + 1],
+    /// How many commits were never put back, once, and more often.
+    backs: [u64; BACKS.len()],
     /// How many confirmations put a head back.
     put_back: u64,
     /// The largest W answered.
     largest_w: usize,
+    /// The most times that a request was put back before its commit.
+    most_backs: u64,
 }
 
 impl Tally {
@@ -28,7 +35,11 @@ impl Tally {
         self.words[word_of(answer)] += 1;
         match *answer {
             Answer::Refused(number) => self.refusals[usize::from(number)] += 1,
-            Answer::Committed { mark, .. } => self.marks[mark] += 1,
+            Answer::Committed { mark, backs, .. } => {
+                self.marks[mark] += 1;
+                self.backs[backs.min(2) as usize] += 1;
+                self.most_backs = self.most_backs.max(backs);
+            }
             Answer::Waiting { w, put_back, .. } => {
                 self.put_back += u64::from(put_back != 0);
                 self.largest_w = self.largest_w.max(w);
@@ -42,12 +53,13 @@ impl Tally {
         self.words.iter().sum()
     }
 
-    /// The words, the refusals that can be reached and the marks that never occurred.
+    /// The words, the refusals that can be reached, the marks and the put-backs that never occurred.
     pub fn missing(&self) -> Vec<String> {
         let words = WORDS.iter().zip(self.words).filter(|(_, count)| *count == 0);
         let refusals = reachable().filter(|&number| self.refusals[usize::from(number)] == 0);
         let marks = (0..).zip(self.marks).filter(|(_, count)| *count == 0);
-        let words = words.map(|(word, _)| word.to_string());
+        let backs = BACKS.iter().zip(self.backs).filter(|(_, count)| *count == 0);
+        let words = words.chain(backs).map(|(word, _)| word.to_string());
         let refusals = refusals.map(|number| format!("refused {number}"));
         words.chain(refusals).chain(marks.map(|(mark, _)| mark_name(mark))).collect()
     }
@@ -66,8 +78,12 @@ impl Tally {
         for (mark, count) in (0..).zip(self.marks) {
             row(out, &mark_name(mark), count)?;
         }
+        for (name, count) in BACKS.iter().zip(self.backs) {
+            row(out, name, count)?;
+        }
         row(out, "heads put back", self.put_back)?;
-        row(out, "largest W", self.largest_w as u64)
+        row(out, "largest W", self.largest_w as u64)?;
+        row(out, "most put-backs", self.most_backs)
     }
 }
 

@@ -21,16 +21,16 @@ pub enum Answer {
     Stepped { id: u32, done: u8 },
     /// The waiting head did its last operation.
     Executed { id: u32 },
-    /// The request committed and its slot is free.
-    Committed { id: u32, number: u32, mark: u8, slot: u8 },
+    /// The request committed and its slot is free; it was put back so often.
+    Committed { id: u32, number: u32, mark: u8, slot: u8, backs: u64 },
     /// The request is confirmed and commits at the w-th work call; 0 if none was put back.
     Waiting { id: u32, w: u32, put_back: u32 },
     /// The committed cell.
     Value(u32),
-    /// The work calls still needed by a confirmed request.
-    ToDo(u32),
-    /// The request is queued and not confirmed.
-    Unconfirmed,
+    /// The work calls still needed by a confirmed request, and how often it was put back.
+    ToDo { w: u32, backs: u64 },
+    /// The request is queued and not confirmed; it was put back so often.
+    Unconfirmed { backs: u64 },
     /// The site is fresh.
     Started,
 }
@@ -45,13 +45,13 @@ impl Answer {
             }
             Answer::Stepped { id, done } => [2, id.into(), done.into(), 0, 0, 0],
             Answer::Executed { id } => [3, id.into(), 0, 0, 0, 0],
-            Answer::Committed { id, number, mark, slot } => {
-                [4, id.into(), number.into(), mark.into(), slot.into(), 0]
+            Answer::Committed { id, number, mark, slot, backs } => {
+                [4, id.into(), number.into(), mark.into(), slot.into(), backs]
             }
             Answer::Waiting { id, w, put_back } => [5, id.into(), w.into(), put_back.into(), 0, 0],
             Answer::Value(cell) => [6, cell.into(), 0, 0, 0, 0],
-            Answer::ToDo(w) => [7, w.into(), 0, 0, 0, 0],
-            Answer::Unconfirmed => [8, 0, 0, 0, 0, 0],
+            Answer::ToDo { w, backs } => [7, w.into(), backs, 0, 0, 0],
+            Answer::Unconfirmed { backs } => [8, backs, 0, 0, 0, 0],
             Answer::Started => [9, 0, 0, 0, 0, 0],
         }
     }

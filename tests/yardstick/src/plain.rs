@@ -21,6 +21,7 @@ pub const FREE: Slot = Slot {
     number: 0,
     done: 0,
     mark: 0,
+    backs: 0,
 };
 
 /// A site whose calls are written by hand.
@@ -128,6 +129,7 @@ pub fn confirm(
         of_class(working, class).copy_from_slice(&committed[CELLS * class..][..CELLS]);
         site.slots[head].done = 0;
         site.slots[head].mark = 0;
+        site.slots[head].backs += 1;
     }
     move_forward(site, class, at);
     Ok(Answer::Waiting { id, w: to_do(site, class, at), put_back })
@@ -165,15 +167,15 @@ pub fn read(site: &Site, committed: &[u32], working: &[u32], class: u64, cell: u
     Ok(Answer::Value(committed[CELLS * class + cell]))
 }
 
-/// W of a confirmed request, or that it is unconfirmed.
+/// W of a confirmed request, or that it is unconfirmed; and how often it was put back.
 pub fn look(site: &Site, committed: &[u32], working: &[u32], id: u64) -> Answered {
     door(site, committed, working)?;
     let at = slot_of(site, id).ok_or(ID_NOT_QUEUED)?;
-    let slot = &site.slots[at];
-    if slot.number == 0 {
-        return Ok(Answer::Unconfirmed);
+    let Slot { class, number, backs, .. } = site.slots[at];
+    if number == 0 {
+        return Ok(Answer::Unconfirmed { backs });
     }
-    Ok(Answer::ToDo(to_do(site, slot.class.into(), at)))
+    Ok(Answer::ToDo { w: to_do(site, class.into(), at), backs })
 }
 
 /// The slot of a queued id.
@@ -227,8 +229,9 @@ fn commit(site: &mut Site, committed: &mut [u32], working: &[u32], class: usize)
     queue[0] = 0;
     queue.rotate_left(1);
     site.lens[class] -= 1;
-    let Slot { id, number, mark, .. } = std::mem::replace(&mut site.slots[usize::from(slot)], FREE);
+    let head = std::mem::replace(&mut site.slots[usize::from(slot)], FREE);
     set_used(site, slot, false);
     site.commits += 1;
-    Answer::Committed { id, number, mark, slot }
+    let Slot { id, number, mark, backs, .. } = head;
+    Answer::Committed { id, number, mark, slot, backs }
 }

@@ -73,8 +73,9 @@ fn waiting(site: &Site) -> u32 {
 }
 
 /// A way to break each rule of a sound site.
-const SPOILS: [(&str, Spoil); 26] = [
+const SPOILS: [(&str, Spoil); 28] = [
     ("a free slot is all zero", |held| held.site.slots[127].ops[6].amount = 1),
+    ("a free slot was never put back", |held| held.site.slots[127].backs = 1),
     ("a class is below 16", |held| head(&mut held.site).class = 16),
     ("a request has operations", |held| head(&mut held.site).count = 0),
     ("a request has at most 7", |held| head(&mut held.site).count = 8),
@@ -93,6 +94,7 @@ const SPOILS: [(&str, Spoil); 26] = [
     ("numbers lie within the count", |held| head(&mut held.site).number = u32::MAX),
     ("the counts agree", |held| held.site.commits += 1),
     ("commits are no more than confirmations", |held| held.site.commits = u32::MAX),
+    ("put-backs are no more than confirmations", |held| head(&mut held.site).backs = 1 << 32),
     ("no more is done than there is", |held| head(&mut held.site).done = 8),
     ("a mark says what declined", |held| head(&mut held.site).mark ^= 1),
     ("kept ids are not 0", |held| held.site.kept[1] = 0),
@@ -152,7 +154,7 @@ fn wrong_cells_are_refused_with_1() {
 fn spoil_by_chance(random: &mut Random, held: &mut Held) {
     let (byte, number) = (random.byte() % 9, random.number() % 9);
     let slot = &mut held.site.slots[random.below(SLOTS)];
-    match random.below(14) {
+    match random.below(15) {
         0 => slot.id = number,
         1 => slot.class = byte,
         2 => slot.count = byte,
@@ -165,7 +167,8 @@ fn spoil_by_chance(random: &mut Random, held: &mut Held) {
         9 => slot.ops[random.below(MOST_OPS)].amount = number,
         10 => held.site.queue[random.below(PLACES)] = byte,
         11 => held.site.lens[random.below(CLASSES)] = byte,
-        12 => held.site.confirmations = held.site.confirmations.wrapping_add(number),
+        12 => slot.backs = held.site.confirmations.wrapping_add(number).wrapping_sub(4).into(),
+        13 => held.site.confirmations = held.site.confirmations.wrapping_add(number),
         _ => held.working[random.below(1_024)] = number,
     }
 }

@@ -1,4 +1,4 @@
--- `list_block` meets its contract: each event adds at most 128 bytes to the text, and 500 of them fit. Assumes nothing.
+-- `list_block` meets its contract: each event adds at most 144 bytes to the text, and 450 of them fit. Assumes nothing.
 use Prim.Native.Nat.{_-_, _*_, _≤_}
 use mathlib.Core.Path.{_≡_}
 use lib.ListN.{length}
@@ -8,7 +8,7 @@ use Rattle.drive.proofs.list_block.Tie as tie
 
 abbrev Inv-loop : tie.InvT-loop
 Inv-loop site₀ committed₀ working₀ first input text₀ n place₀ len₀ at₀ site committed working text place len at =
-    (at ≤ n) × (len * 9 ≤ at * 16) × (length text ≡ length text₀) × (length committed ≡ length committed₀) × (length working ≡ length working₀)
+    (at ≤ n) × (len ≤ at * 2) × (length text ≡ length text₀) × (length committed ≡ length committed₀) × (length working ≡ length working₀)
 
 abbrev μ-loop : tie.MeasureT-loop
 μ-loop site₀ committed₀ working₀ first input text₀ n place₀ len₀ at₀ site committed working text place len at =

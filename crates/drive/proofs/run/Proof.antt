@@ -8,7 +8,7 @@ use Rattle.drive.proofs.run.Tie as tie
 
 abbrev Inv-loop : tie.InvT-loop
 Inv-loop site₀ committed₀ working₀ input₀ text₀ first₀ turns₀ t10 site committed working input text first turns =
-    (length input ≡ 36000) × (length text ≡ 65536) × (length committed ≡ length committed₀) × (length working ≡ length working₀)
+    (length input ≡ 32400) × (length text ≡ 65536) × (length committed ≡ length committed₀) × (length working ≡ length working₀)
 
 abbrev μ-loop : tie.MeasureT-loop
 μ-loop site₀ committed₀ working₀ input₀ text₀ first₀ turns₀ t10 site committed working input text first turns =

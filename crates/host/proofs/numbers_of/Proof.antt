@@ -38,6 +38,9 @@ returns-7 c = known said _ _ _ (c .before .answer7 .given .1) refl
 returns-8 : tie.Need-returns-8
 returns-8 c = known said _ _ _ (c .before .answer8 .given .1) refl
 
+returns-9 : tie.Need-returns-9
+returns-9 c = known said _ _ _ (c .before .answer9 .given .1) refl
+
 pub numbers-of-spec : {M : Type 1} → statement M
 numbers-of-spec =
     tie.close
@@ -76,4 +79,4 @@ numbers-of-spec =
     returns-6
     returns-7
     returns-8
-    (λ c. search needs))
+    returns-9)

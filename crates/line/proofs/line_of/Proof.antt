@@ -38,7 +38,7 @@ returns-8 : tie.Need-returns-8
 returns-8 c = (told _ _ _ _ (c .before .before .before .before .answer8 .given .1) (c .whole8 .ensures .0), c .whole8 .ensures .1)
 
 returns-9 : tie.Need-returns-9
-returns-9 c = (told _ _ _ _ (c .before .before .before .enum-told .given .1) (c .whole9 .ensures .0), c .whole9 .ensures .1)
+returns-9 c = (told _ _ _ _ (c .before .before .before .before .answer9 .given .1) (c .whole9 .ensures .0), c .whole9 .ensures .1)
 
 pub line-of-spec : {M : Type 1} → statement M
 line-of-spec =

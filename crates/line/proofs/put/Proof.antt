@@ -24,7 +24,7 @@ all-there : (bytes start text : List ℕ) (at i : ℕ) → length text ≤ i →
 all-there bytes start text at i h e = e ∙ ap (λ (t : List ℕ). start ++ t) (take-all i text h)
 
 abbrev Inv-loop : tie.InvT-loop
-Inv-loop text bytes₀ at i₀ bytes i = (i ≤ length text) × (take (at + i) bytes ≡ take at bytes₀ ++ take i text) × (length bytes ≡ 128)
+Inv-loop text bytes₀ at i₀ bytes i = (i ≤ length text) × (take (at + i) bytes ≡ take at bytes₀ ++ take i text) × (length bytes ≡ 144)
 
 abbrev μ-loop : tie.MeasureT-loop
 μ-loop text bytes₀ at i₀ bytes i = length text - i

@@ -10,19 +10,19 @@ use Rattle.slots.proofs.is_zero.Tie as tie
 
 returns : tie.Need-returns
 returns c =
-    let v = c .before .before .before .before .before .before .before .args .v in
+    let v = c .before .before .before .before .before .before .before .before .args .v in
     decides-as
-    (λ h. all-zero v (seven v _ (c .before .before .before .before .before .before .before .good .0)) (h .1) (h .0 .0 .0 .0) (h .0 .0 .0 .1) (h .0 .0 .1) (h .0 .1 .0 .0) (h .0 .1 .0 .1) (h .0 .1 .1))
+    (λ h. all-zero v (seven v _ (c .before .before .before .before .before .before .before .before .good .0)) (h .1) (h .0 .0 .0 .0) (h .0 .0 .0 .1) (h .0 .0 .1) (h .0 .1 .0 .0 .0) (h .0 .1 .0 .0 .1) (h .0 .1 .0 .1) (h .0 .1 .1))
     (λ e. (
       (
         ((ap (λ (v : Slot). v .id) e, ap (λ (v : Slot). v .class) e), ap (λ (v : Slot). v .count) e),
-        ((ap (λ (v : Slot). v .number) e, ap (λ (v : Slot). v .done) e), ap (λ (v : Slot). v .mark) e),
+        (((ap (λ (v : Slot). v .number) e, ap (λ (v : Slot). v .done) e), ap (λ (v : Slot). v .mark) e), ap (λ (v : Slot). v .backs) e),
       ),
       free-zero _ e,
     ))
     (decides-both (decides-both
     (decides-both (decides-both (decides-eq _ 0) (decides-eq _ 0)) (decides-eq _ 0))
-    (decides-both (decides-both (decides-eq _ 0) (decides-eq _ 0)) (decides-eq _ 0)))
+    (decides-both (decides-both (decides-both (decides-eq _ 0) (decides-eq _ 0)) (decides-eq _ 0)) (decides-eq _ 0)))
     (c .ops-zero .ensures))
 
 pub is-zero-spec : {M : Type 1} → statement M

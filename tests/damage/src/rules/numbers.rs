@@ -1,4 +1,4 @@
-//! The sound rules about ids, definitive numbers and the two counts.
+//! The sound rules about ids, definitive numbers, times put back and the two counts.
 
 use crate::aim::{HALF, age, any_slot};
 use crate::subject::Subject;
@@ -8,6 +8,8 @@ use shpendorak::raw::{CLASSES, SLOTS, Site, Slot};
 
 /// So many confirmations later no number is kept any more.
 const LONG_AGO: u32 = 1_000;
+/// No count of confirmations is as large.
+const BEYOND_32_BITS: u64 = 1 << u32::BITS;
 
 /// Ids differ.
 pub fn ids_differ(subject: &Subject) -> bool {
@@ -117,4 +119,20 @@ pub fn counts_agree(subject: &Subject) -> bool {
 pub fn commits_wrong(random: &mut Random, subject: &mut Subject) {
     let commits = &mut subject.site.commits;
     *commits = if random.chance(HALF) { commits.wrapping_add(1) } else { commits.wrapping_sub(1) };
+}
+
+/// No count of times put back is above the count of confirmations.
+pub fn backs_are_counted(subject: &Subject) -> bool {
+    used(subject).all(|slot| slot.backs <= subject.site.confirmations.into())
+}
+
+/// A request was put back more often than there were confirmations: once, somewhat or far more.
+pub fn backs_above_count(random: &mut Random, subject: &mut Subject) {
+    let site = &mut subject.site;
+    if let Some(at) = any_slot(random, site, |_, slot| is_used(slot)) {
+        let confirmations = u64::from(site.confirmations);
+        let (some, any) = (u64::from(random.byte()), random.bits());
+        let above = [confirmations + 1, confirmations + 1 + some, any | BEYOND_32_BITS, u64::MAX];
+        site.slots[at].backs = random.pick(&above);
+    }
 }

@@ -1,6 +1,6 @@
 //! The sound rules about a slot alone: free and all zero, or a valid record.
 
-use crate::aim::{any_slot, byte_from};
+use crate::aim::{HALF, any_slot, byte_from};
 use crate::subject::Subject;
 use crate::view::{is_used, ops_and_past, used};
 use model::random::Random;
@@ -14,10 +14,15 @@ pub fn free_slots_are_zero(subject: &Subject) -> bool {
     subject.site.slots.iter().all(|slot| is_used(slot) || *slot == Slot::default())
 }
 
-/// A free slot gets an amount.
+/// A free slot gets an amount, or was put back.
 pub fn free_slot_not_zero(random: &mut Random, subject: &mut Subject) {
     if let Some(at) = any_slot(random, &subject.site, |_, slot| !is_used(slot)) {
-        subject.site.slots[at].ops[random.below(MOST_OPS)].amount = random.number() | 1;
+        let slot = &mut subject.site.slots[at];
+        if random.chance(HALF) {
+            slot.ops[random.below(MOST_OPS)].amount = random.number() | 1;
+        } else {
+            slot.backs = 1 << random.below(u64::BITS as usize);
+        }
     }
 }
 

@@ -31,7 +31,7 @@ fn the_model_agrees_with_itself_and_every_answer_occurs() {
         let count: u64 = row.split(' ').next_back().unwrap().parse().unwrap();
         assert!(count > 0, "{row}");
     }
-    assert_eq!(text.lines().count(), 1 + 7 + 11 + 8 + 2);
+    assert_eq!(text.lines().count(), 1 + 7 + 11 + 8 + 3 + 3);
 }
 
 #[test]

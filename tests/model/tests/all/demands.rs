@@ -62,10 +62,11 @@ fn a_promise_holds_through_all_other_calls() {
         offer(&mut site, id + 10, 3, &[put(0, 0)]);
         site.read(3, 0);
         site.work(4);
-        assert_eq!([site.look(5), site.look(2)], [Answer::ToDo(2), Answer::ToDo(5)]);
+        let left = [2, 5].map(|w| Answer::ToDo { w, backs: 0 });
+        assert_eq!([site.look(5), site.look(2)], left);
     }
-    let answer = Answer::Committed { id: 5, number: 1, mark: 0, slot: 4 };
+    let answer = Answer::Committed { id: 5, number: 1, mark: 0, slot: 4, backs: 0 };
     assert_eq!(work(&mut site, 3, 2), answer);
-    let answer = Answer::Committed { id: 2, number: 2, mark: 0, slot: 1 };
+    let answer = Answer::Committed { id: 2, number: 2, mark: 0, slot: 1, backs: 0 };
     assert_eq!(work(&mut site, 3, 3), answer);
 }

@@ -101,7 +101,7 @@ fn operations_after_a_decline_take_a_call_each_and_change_nothing() {
     }
     assert_eq!(site.work(0), Answer::Executed { id: 1 });
     let number = site.confirmations + 1;
-    let answer = Answer::Committed { id: 1, number, mark: 2, slot: 0 };
+    let answer = Answer::Committed { id: 1, number, mark: 2, slot: 0, backs: 0 };
     assert_eq!(site.confirm(1, number), answer);
     assert_eq!(site.classes[0].committed, before);
 }
@@ -154,7 +154,7 @@ fn a_head_put_back_is_not_declined_any_more() {
     assert_eq!(confirm(&mut site, 2), Answer::Waiting { id: 2, w: 1, put_back: 1 });
     assert_eq!(site.classes[0].queue[1].mark, 0);
     work(&mut site, 0, 3);
-    let answer = Answer::Committed { id: 1, number: 2, mark: 0, slot: 0 };
+    let answer = Answer::Committed { id: 1, number: 2, mark: 0, slot: 0, backs: 1 };
     assert_eq!(confirm(&mut site, 1), answer);
     assert_eq!(two_cells(&site), [5, 1]);
 }
@@ -167,7 +167,7 @@ fn confirming_an_active_head_keeps_what_is_done() {
     assert_eq!(site.classes[2].queue[0].done, 2);
     assert_eq!(site.classes[2].working[0], 1);
     assert_eq!(work(&mut site, 2, 2), Answer::Stepped { id: 1, done: 4 });
-    let answer = Answer::Committed { id: 1, number: 1, mark: 0, slot: 0 };
+    let answer = Answer::Committed { id: 1, number: 1, mark: 0, slot: 0, backs: 0 };
     assert_eq!(site.work(2), answer);
 }
 
@@ -210,7 +210,7 @@ fn the_129th_is_taken_after_a_commit_in_the_slot_just_freed() {
     }
     assert_eq!(offer(&mut site, 129, 0, &[put(0, 1)]), Answer::Refused(SITE_FULL));
     confirm(&mut site, 70);
-    let answer = Answer::Committed { id: 70, number: 1, mark: 0, slot: 69 };
+    let answer = Answer::Committed { id: 70, number: 1, mark: 0, slot: 69, backs: 0 };
     assert_eq!(site.work(5), answer);
     let answer = Answer::Queued { id: 129, class: 0, place: 9, slot: 69 };
     assert_eq!(offer(&mut site, 129, 0, &[put(0, 1)]), answer);
@@ -227,7 +227,7 @@ fn a_class_may_hold_all_128_and_then_w_is_896() {
         assert_eq!(confirm(&mut site, id), Answer::Waiting { id, w: 7 * count, put_back: 0 });
     }
     assert_eq!(confirm(&mut site, 128), Answer::Waiting { id: 128, w: 896, put_back: 0 });
-    let answer = Answer::Committed { id: 128, number: 128, mark: 0, slot: 127 };
+    let answer = Answer::Committed { id: 128, number: 128, mark: 0, slot: 127, backs: 0 };
     assert_eq!(work(&mut site, 4, 896), answer);
 }
 

@@ -26,7 +26,7 @@ fn the_request_being_confirmed_is_not_put_back() {
     assert_eq!(work(&mut site, 0, 2), Answer::Stepped { id: 1, done: 2 });
     assert_eq!(confirm(&mut site, 1), Answer::Waiting { id: 1, w: 1, put_back: 0 });
     assert_eq!(site.classes[0].working[0], 2);
-    let answer = Answer::Committed { id: 1, number: 1, mark: 0, slot: 0 };
+    let answer = Answer::Committed { id: 1, number: 1, mark: 0, slot: 0, backs: 0 };
     assert_eq!(site.work(0), answer);
     assert_eq!(site.read(0, 0), Answer::Value(3));
 }
@@ -50,7 +50,7 @@ fn the_confirmed_request_stays_behind_earlier_confirmed_ones() {
     confirm(&mut site, 3);
     assert_eq!(confirm(&mut site, 2), Answer::Waiting { id: 2, w: 4, put_back: 0 });
     assert_eq!(ids(&site, 0), [3, 2, 1]);
-    let answer = Answer::Committed { id: 3, number: 1, mark: 0, slot: 2 };
+    let answer = Answer::Committed { id: 3, number: 1, mark: 0, slot: 2, backs: 0 };
     assert_eq!(work(&mut site, 0, 2), answer);
 }
 
@@ -77,9 +77,9 @@ fn the_second_may_commit_before_the_first_in_another_class() {
     offer(&mut site, 2, 1, &[put(0, 2)]);
     confirm(&mut site, 1);
     assert_eq!(confirm(&mut site, 2), Answer::Waiting { id: 2, w: 1, put_back: 0 });
-    let answer = Answer::Committed { id: 2, number: 2, mark: 0, slot: 1 };
+    let answer = Answer::Committed { id: 2, number: 2, mark: 0, slot: 1, backs: 0 };
     assert_eq!(site.work(1), answer);
-    let answer = Answer::Committed { id: 1, number: 1, mark: 0, slot: 0 };
+    let answer = Answer::Committed { id: 1, number: 1, mark: 0, slot: 0, backs: 0 };
     assert_eq!(site.work(0), answer);
 }
 
@@ -91,7 +91,7 @@ fn an_executed_second_commits_when_confirmed_though_the_first_has_not() {
     offer(&mut site, 2, 1, &[put(0, 2)]);
     site.work(1);
     confirm(&mut site, 1);
-    let answer = Answer::Committed { id: 2, number: 2, mark: 0, slot: 1 };
+    let answer = Answer::Committed { id: 2, number: 2, mark: 0, slot: 1, backs: 0 };
     assert_eq!(confirm(&mut site, 2), answer);
 }
 

@@ -47,10 +47,10 @@ fn each_answer_has_its_line() {
         (Answer::Stepped { id: u32::MAX, done: 6 }, "stepped 4294967295 6"),
         (Answer::Executed { id: 5 }, "executed 5"),
         (
-            Answer::Committed { id: 5, number: u32::MAX, mark: 7, slot: 0 },
-            "committed 5 4294967295 7 0",
+            Answer::Committed { id: 5, number: u32::MAX, mark: 7, slot: 0, backs: u64::MAX },
+            "committed 5 4294967295 7 0 18446744073709551615",
         ),
-        (Answer::Committed { id: 5, number: 1, mark: 0, slot: 9 }, "committed 5 1 0 9"),
+        (Answer::Committed { id: 5, number: 1, mark: 0, slot: 9, backs: 2 }, "committed 5 1 0 9 2"),
         (Answer::Waiting { id: 5, w: 896, put_back: 0 }, "waiting 5 896 0"),
         (Answer::Value(u32::MAX), "value 4294967295"),
         (Answer::Refused(13), "refused 13"),
@@ -103,7 +103,7 @@ fn fields_without_use_are_not_looked_at() {
     let input: Vec<u8> = events.iter().flat_map(Event::encode).collect();
     assert_eq!(
         lines(&input),
-        "1 queued 5 0 1 0\n2 waiting 5 1 0\n3 committed 5 1 0 0\n4 value 1\n"
+        "1 queued 5 0 1 0\n2 waiting 5 1 0\n3 committed 5 1 0 0 0\n4 value 1\n"
     );
 }
 

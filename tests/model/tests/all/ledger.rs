@@ -12,11 +12,13 @@ const SPAN: u64 = 1 << 32;
 /// The cells of a class in the books.
 type Cells = [u64; 64];
 
-/// A request in the books: its class and its operations as code, cell, second cell, amount.
+/// A request in the books: its class, its operations as code, cell, second cell, amount, and how
+/// often it was put back.
 #[derive(Clone, Debug)]
 struct Noted {
     class: usize,
     ops: Vec<(u8, usize, usize, u64)>,
+    backs: u64,
 }
 
 /// A confirmed request in the books.
@@ -97,7 +99,7 @@ impl Ledger {
         assert_eq!(id, number_at(record, 0));
         let ops = record[8..].chunks(8).take(record[5].into());
         let ops = ops.map(|op| (op[0], op[1].into(), op[2].into(), number_at(op, 4).into()));
-        let noted = Noted { class: record[4].into(), ops: ops.collect() };
+        let noted = Noted { class: record[4].into(), ops: ops.collect(), backs: 0 };
         assert!(self.queued.insert(id, noted).is_none(), "{id} was queued already");
         self.accepted += 1;
     }
@@ -116,8 +118,16 @@ impl Ledger {
                 assert!((1..=896).contains(&w), "W is {w}");
                 assert!(self.promises.iter().all(|promise| promise.id != put_back));
                 self.promises.push(Promise { id, class, left: w });
+                self.enter_put_back(put_back);
             }
             _ => self.enter_commit(class, answer),
+        }
+    }
+
+    /// Enters that a request was put back; none has the id 0.
+    fn enter_put_back(&mut self, id: u32) {
+        if let Some(head) = self.queued.get_mut(&id) {
+            head.backs += 1;
         }
     }
 
@@ -148,13 +158,14 @@ impl Ledger {
     fn enter_commit(&mut self, class: usize, answer: &Answer) {
         let next = self.confirmed[class][self.committed[class]].clone();
         let run = run_request(&self.cells[class], &next.request, &mut self.outcomes);
-        let Answer::Committed { id, number, mark, .. } = *answer else {
+        let Answer::Committed { id, number, mark, backs, .. } = *answer else {
             panic!("{answer:?} is no commit");
         };
         assert_eq!((id, number, mark), (next.id, next.number, run.err().unwrap_or(0)));
         self.cells[class] = run.unwrap_or(self.cells[class]);
         self.committed[class] += 1;
-        self.queued.remove(&id);
+        let noted = self.queued.remove(&id).expect("it was queued");
+        assert_eq!(backs, noted.backs, "{id} was put back as often as told");
     }
 
     /// Checks the site against the books.
@@ -163,10 +174,14 @@ impl Ledger {
             assert_eq!(*cells, class.committed.map(u64::from));
         }
         for promise in &self.promises {
-            assert_eq!(site.look(promise.id), Answer::ToDo(promise.left), "{promise:?}");
+            let backs = self.queued[&promise.id].backs;
+            let left = Answer::ToDo { w: promise.left, backs };
+            assert_eq!(site.look(promise.id), left, "{promise:?}");
         }
-        let looks = self.queued.keys().map(|&id| site.look(id));
-        let unconfirmed = looks.filter(|look| *look == Answer::Unconfirmed).count();
+        let waits = |(id, noted): &(&u32, &Noted)| {
+            site.look(**id) == Answer::Unconfirmed { backs: noted.backs }
+        };
+        let unconfirmed = self.queued.iter().filter(waits).count();
         assert_eq!(unconfirmed + self.promises.len(), self.queued.len());
         assert_eq!(site.queued(), self.queued.len());
         let commits: usize = self.committed.iter().sum();

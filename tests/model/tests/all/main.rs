@@ -1,5 +1,6 @@
 //! The tests of the model, one file for each part of the rules.
 
+mod backs;
 mod compare;
 mod demands;
 mod edges;

@@ -82,7 +82,7 @@ fn the_last_number_of_all_is_taken() {
     site.commits -= 1;
     site.confirmations -= 1;
     site.check();
-    let answer = Answer::Committed { id: 3, number: u32::MAX, mark: 0, slot: 2 };
+    let answer = Answer::Committed { id: 3, number: u32::MAX, mark: 0, slot: 2, backs: 0 };
     assert_eq!(site.confirm(3, u32::MAX), answer);
     site.check();
     refused(site, 6, |site| site.confirm(2, 0));
@@ -127,9 +127,9 @@ fn read_is_refused_with_10_before_12() {
 #[test]
 fn look_answers_w_or_unconfirmed_or_8() {
     let site = site();
-    assert_eq!(site.look(1), Answer::ToDo(1));
-    assert_eq!(site.look(2), Answer::Unconfirmed);
-    assert_eq!(site.look(3), Answer::Unconfirmed);
+    assert_eq!(site.look(1), Answer::ToDo { w: 1, backs: 0 });
+    assert_eq!(site.look(2), Answer::Unconfirmed { backs: 0 });
+    assert_eq!(site.look(3), Answer::Unconfirmed { backs: 0 });
     assert_eq!(site.look(9), Answer::Refused(ID_NOT_QUEUED));
     assert_eq!(site.look(0), Answer::Refused(ID_NOT_QUEUED));
 }

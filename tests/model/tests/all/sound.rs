@@ -127,6 +127,9 @@ fn broken_numbers_and_counts_are_noticed() {
     let counts = "confirmations are commits plus confirmed requests queued";
     breaks(counts, |site| site.commits += 1);
     breaks(counts, |site| site.confirmations += 1);
+    let backs = "none was put back more often than there were confirmations";
+    breaks(backs, |site| site.classes[0].queue[2].backs = 3);
+    breaks(backs, |site| site.classes[1].queue[0].backs = u64::MAX);
 }
 
 #[test]

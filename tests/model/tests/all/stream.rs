@@ -1,6 +1,7 @@
 //! The streams: fixed by their seed, of the right length, and of their kind.
 
 use crate::help::program;
+use model::answer::Answer;
 use model::event::{Event, Run, EVENT_BYTES};
 use model::site::SLOTS;
 use model::stream::{kind_named, Kind, Stream, KINDS};
@@ -90,6 +91,24 @@ fn one_class_and_few_ids_keep_to_theirs() {
         assert!(run.site.entries().all(|entry| entry.request.id % 0x0080_0903 == 0));
     }
     assert!(run.site.commits > 50);
+}
+
+#[test]
+fn overtaken_requests_are_put_back_often() {
+    let mut most = 0;
+    for seed in 0..12 {
+        let mut run = Run::fresh();
+        let mut put_back = 0;
+        for bytes in Stream::new(Kind::Overtaken, seed, 2_000) {
+            match run.take(&bytes) {
+                Answer::Waiting { put_back: id, .. } => put_back += usize::from(id != 0),
+                Answer::Committed { backs, .. } => most = backs.max(most),
+                _ => {}
+            }
+        }
+        assert!(put_back > 300, "seed {seed}: {put_back}");
+    }
+    assert!(most > 255, "{most}");
 }
 
 #[test]

@@ -14,13 +14,13 @@ const LISTING: &str = "\
 2 queued 9 3 2 1
 3 stepped 7 1
 4 waiting 9 1 7
-5 committed 9 1 0 1
+5 committed 9 1 0 1 0
 6 value 4294967295
 7 stepped 7 1
 8 executed 7
 9 value 0
 10 refused 7
-11 committed 7 2 0 0
+11 committed 7 2 0 0 1
 12 value 100
 13 refused 11
 ";

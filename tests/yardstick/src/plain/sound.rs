@@ -10,7 +10,7 @@ const MARKS: usize = 4096;
 
 /// Whether the site is sound with its cells.
 pub fn sound(site: &Site, committed: &[u32], working: &[u32]) -> bool {
-    site.slots.iter().all(slot_ok)
+    site.slots.iter().all(|slot| slot_ok(slot, site.confirmations))
         && site.lens.iter().all(|&len| usize::from(len) <= SLOTS)
         && tails_zero(site)
         && map_agrees(site)
@@ -27,9 +27,9 @@ pub fn queue_of(site: &Site, class: usize) -> &[u8] {
     &site.queue[SLOTS * class..][..usize::from(site.lens[class])]
 }
 
-/// Whether a slot is free and all zero, or holds a valid record.
-fn slot_ok(slot: &Slot) -> bool {
-    if slot.id == 0 { *slot == FREE } else { holds(slot) }
+/// Whether a slot is free and all zero, or holds a valid record that was put back at most as often as was confirmed.
+fn slot_ok(slot: &Slot, confirmations: u32) -> bool {
+    if slot.id == 0 { *slot == FREE } else { holds(slot) && slot.backs <= confirmations.into() }
 }
 
 /// Whether a slot holds a valid record.

@@ -7,7 +7,7 @@ use Rattle.site.specs.Held.{store, stateOf}
 use Rattle.site.proofs.Shape.{shaped}
 use Rattle.store.specs.Store.{Store}
 use Rattle.store.proofs.Asking.{countable}
-use Rattle.site.proofs.Confirmation.{small-class, some-queued, first-small, not-back, put-back-gone, stayed-gone}
+use Rattle.site.proofs.Confirmation.{small-class, first-small, may-back, not-back, put-back-gone, stayed-gone}
 use borrow.Author.Needs.{needs}
 use Rattle.site.proofs.Site.confirm_later.Statement.{statement}
 use Rattle.site.proofs.Site.confirm_later.Tie as tie
@@ -45,10 +45,7 @@ put-back-requires c κs =
     let c₁ = c .before .before .before .before .before .before .before .before .before .before in
     let pre· = c₁ .pre in
     let args· = c₁ .args in
-    let good· = c₁ .good in
-    let x· = stateOf (args· .t1) (now (args· .committed)) (now (args· .working)) in
-    let w· = shaped (args· .t1) _ (good· .0) in
-    (pre· .0 .0 .sound .laid, small-class x· w· (args· .i) (pre· .0 .0), some-queued x· w· (args· .i) (pre· .0 .0), pre· .0 .0 .right)
+    may-back (stateOf (args· .t1) (now (args· .committed)) (now (args· .working))) (shaped (args· .t1) _ (c₁ .good .0)) (args· .i) (pre· .0 .0)
 
 forward-requires : tie.Need-forward-requires
 forward-requires c κs =

@@ -14,7 +14,7 @@ mul-v c =
     let c₁ = c .before .before .before .before .before .before .before in
     let args· = c₁ .args in
     let pre· = c₁ .pre in
-    let small = head-small (store (args· .t1)) (shaped (args· .t1) _ (c₁ .good .0)) (pre· .0) (args· .c) (pre· .1) (pre· .2) in
+    let small = head-small (store (args· .t1)) (shaped (args· .t1) _ (c₁ .good .0)) (pre· .laid) (args· .c) (pre· .class) (pre· .some) in
     record { fits = omega arith }
 
 element-copy-out-v : tie.Need-element-copy-out-v
@@ -22,35 +22,38 @@ element-copy-out-v c =
     let c₁ = c .before .before .before .before .before .before .before in
     let args· = c₁ .args in
     let pre· = c₁ .pre in
-    head-small (store (args· .t1)) (shaped (args· .t1) _ (c₁ .good .0)) (pre· .0) (args· .c) (pre· .1) (pre· .2)
+    head-small (store (args· .t1)) (shaped (args· .t1) _ (c₁ .good .0)) (pre· .laid) (args· .c) (pre· .class) (pre· .some)
+
+add-v : tie.Need-add-v
+add-v c = record { fits = c .before .before .before .before .before .before .before .before .before .pre .fits }
 
 mul-v-2 : tie.Need-mul-v-2
 mul-v-2 c =
-    let c₁ = c .before .before .before .before .before .before .before .before in
+    let c₁ = c .before .before .before .before .before .before .before .before .before in
     let args· = c₁ .args in
     let pre· = c₁ .pre in
-    let small = head-small (store (args· .t1)) (shaped (args· .t1) _ (c₁ .good .0)) (pre· .0) (args· .c) (pre· .1) (pre· .2) in
+    let small = head-small (store (args· .t1)) (shaped (args· .t1) _ (c₁ .good .0)) (pre· .laid) (args· .c) (pre· .class) (pre· .some) in
     record { fits = omega arith }
 
 element-set-from-v : tie.Need-element-set-from-v
 element-set-from-v c =
-    let c₁ = c .before .before .before .before .before .before .before .before in
+    let c₁ = c .before .before .before .before .before .before .before .before .before in
     let args· = c₁ .args in
     let pre· = c₁ .pre in
-    head-small (store (args· .t1)) (shaped (args· .t1) _ (c₁ .good .0)) (pre· .0) (args· .c) (pre· .1) (pre· .2)
+    head-small (store (args· .t1)) (shaped (args· .t1) _ (c₁ .good .0)) (pre· .laid) (args· .c) (pre· .class) (pre· .some)
 
 returns : tie.Need-returns
 returns c =
-    let c₁ = c .before .before .before .before in
+    let c₁ = c .before .before .before .before .before in
     let c₂ = c₁ .before .before .before .before in
     let copy-class· = c₁ .copy-class in
     let pre· = c₂ .pre in
     let args· = c₂ .args in
     record {
       is = refl;
-      cells = copy-class· .kept .0 ∙ pre· .3 .1;
-      own = copied (args· .working .now) (args· .committed .now) (copy-class· .last .0) (args· .c) (pre· .1) (pre· .3 .1) (pre· .3 .0) (copy-class· .ensures);
-      others = uncopied (args· .working .now) (args· .committed .now) (copy-class· .last .0) (args· .c) (pre· .1) (pre· .3 .1) (pre· .3 .0) (copy-class· .ensures);
+      cells = copy-class· .kept .0 ∙ pre· .cells .1;
+      own = copied (args· .working .now) (args· .committed .now) (copy-class· .last .0) (args· .c) (pre· .class) (pre· .cells .1) (pre· .cells .0) (copy-class· .ensures);
+      others = uncopied (args· .working .now) (args· .committed .now) (copy-class· .last .0) (args· .c) (pre· .class) (pre· .cells .1) (pre· .cells .0) (copy-class· .ensures);
     }
 
 pub put-back-spec : {M : Type 1} → statement M
@@ -63,6 +66,7 @@ put-back-spec =
     (λ c. search needs)
     mul-v
     element-copy-out-v
+    add-v
     mul-v-2
     element-set-from-v
     (λ c. search needs)
