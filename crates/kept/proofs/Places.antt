@@ -18,7 +18,7 @@ use Rattle.store.specs.Meaning.{under}
 use Rattle.store.specs.Sound.{Apart}
 use Rattle.store.specs.Checks.{InUse, Spare, Filled, KeptApart, Among, MatchesAll}
 use Rattle.store.proofs.KeptIds.{place-of, differ-of}
-use Rattle.kept.specs.Marks.{MarkedUpTo, Marks}
+use Rattle.kept.specs.Marks.{MarkedUpTo}
 
 -- no place is both in use and to spare
 pub not-both : (top p : ℕ) → InUse top p → Spare top p → ⊥

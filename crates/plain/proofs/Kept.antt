@@ -22,7 +22,7 @@ use Rattle.plain.proofs.Confirming.{Confirms, at-once, later}
 use Rattle.plain.proofs.Sites.{not-queued, room, free, number-unused, work-accepted, offer-accepted, Confirmable, confirm-accepted}
 use Rattle.plain.proofs.Accepted.{id-lasts, slot-lasts, number-lasts, confirmed-lasts, turns, work-both, offer-both, confirm-both}
 use Rattle.plain.proofs.Backs.{call-backs}
-use Rattle.plain.proofs.Recent.{Keeping, call-keeping}
+use Rattle.plain.proofs.Recent.{call-keeping}
 
 -- DIFFERENT: no two requests pass one of a family of lasting tests
 module _ (P : ℕ → Item → Bool) (lasts : (j : ℕ) → Lasting (P j)) (s : Site) (w : SoundSite s) (u : Differ P s) where

@@ -1,20 +1,17 @@
 -- An id that was confirmed under a number is refused by every offer until 256 more confirmations were accepted. Assumes nothing.
-use Prim.Native.Nat.{ℕ, suc, _+_, _<_, _≤_}
+use Prim.Native.Nat.{ℕ, suc, _+_, _≤_}
 use native.Mathlib.Omega.{arith}
 use mathlib.Core.Path.{_≡_, refl, sym, ap, _∙_, subst}
-use mathlib.Core.Logic.{_⊎_, inl, inr}
-use mathlib.Core.Bool.{Bool, true, false}
-use mathlib.Core.Option.{none, some}
+use mathlib.Core.Logic.{inl, inr}
+use mathlib.Core.Bool.{true}
 use mathlib.Core.List.{List, [], _∷_, _++_}
-use lib.Dec.{eqb}
 use lib.ListN.{length, length-append}
 use borrow.Author.Tests.{eqb-true, eq-eqb, ne-eqb}
-use Rattle.plain.specs.Sizes.{keptCount}
 use Rattle.plain.specs.Ops.{Request}
 use Rattle.plain.specs.Record.{request, requestIn}
-use Rattle.plain.specs.Queue.{Item, idOf, idIs}
-use Rattle.plain.specs.Site.{Site, Call, offer, work, confirm, read, look, fresh, call, act, accepts, refusal, missing}
-use Rattle.plain.specs.Site.{classOf, isQueued, Recent, isKept, keptWith}
+use Rattle.plain.specs.Queue.{idOf, idIs}
+use Rattle.plain.specs.Site.{Site, Call, offer, work, confirm, read, look, call, act, accepts, refusal, missing}
+use Rattle.plain.specs.Site.{classOf, isQueued, isKept}
 use Rattle.plain.specs.Sound.{All}
 use Rattle.plain.specs.History.{after, confirmedBy, confirmations}
 use Rattle.plain.specs.Demands.{Counted, Turned, KeptOut}

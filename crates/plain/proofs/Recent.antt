@@ -5,11 +5,11 @@ use mathlib.Core.Path.{_≡_, refl, sym, _∙_}
 use mathlib.Core.Bool.{Bool, true, false, cond}
 use mathlib.Core.Option.{none, some}
 use mathlib.Core.List.{List, [], _∷_}
-use lib.Dec.{ltb, eqb}
-use borrow.Author.Tests.{eqb-true, eqb-false, eq-eqb, ne-eqb, ltb-true, ltb-false, lt-ltb, le-ltb}
+use lib.Dec.{eqb}
+use borrow.Author.Tests.{eqb-true, eqb-false, eq-eqb, ne-eqb, ltb-true, ltb-false, lt-ltb}
 use Rattle.plain.specs.Record.{requestIn}
 use Rattle.plain.specs.Queue.{Item, idOf, idIs, numberIs, isConfirmed, count, entryOf}
-use Rattle.plain.specs.Steps.{Did, newEntry, numbered, workStep, offerStep, confirmStep}
+use Rattle.plain.specs.Steps.{Did, newEntry, workStep, offerStep, confirmStep}
 use Rattle.plain.specs.Site.{Site, Call, offer, work, confirm, read, look, lowest, standing, classOf, freeSlot}
 use Rattle.plain.specs.Site.{Recent, firstRecent, recentCount, isKept, call, act, accepts, inClass}
 use Rattle.plain.specs.Sound.{SoundSite, differs, strange, Belongs}

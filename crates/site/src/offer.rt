@@ -1,10 +1,9 @@
 // Offer: a record's request joins the end of its class's queue, in the lowest-numbered free slot.
-ghost use mathlib.Core.Path.{_≡_};
 ghost use Prim.Native.Nat.{_<_};
 ghost use lib.ListN.{getD};
 ghost use Rattle.plain.specs.Site.{offer};
 ghost use Rattle.store.specs.Calls.{RightCells, SoundState, Did, Called};
-ghost use Rattle.site.specs.Held.{store, stateOf, answerOf, Placed};
+ghost use Rattle.site.specs.Held.{stateOf, answerOf, Placed};
 use crate::Answer;
 use crate::Reply;
 use crate::SLOTS;

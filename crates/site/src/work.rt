@@ -1,5 +1,4 @@
 // Work: the head of a class does its next operation, and commits when it has done its last and is confirmed.
-ghost use mathlib.Core.Path.{_≡_};
 ghost use Rattle.plain.specs.Site.{work};
 ghost use Rattle.store.specs.Steps.{Commitable, CommitDone};
 ghost use Rattle.store.specs.Calls.{Did, Called};

@@ -5,14 +5,12 @@ use native.Mathlib.Numerals.{add-one}
 use mathlib.Core.Path.{_≡_, refl, _∙_}
 use mathlib.Core.Logic.{_⊎_, inl, inr}
 use mathlib.Core.Bool.{cond}
-use mathlib.Core.List.{List}
 use lib.Dec.{eqb, ltb}
 use borrow.Author.Tests.{eqb-true, eqb-false, eq-eqb, ne-eqb, lt-ltb, le-ltb}
 use Rattle.plain.specs.Queue.{isConfirmed, count}
 use Rattle.plain.specs.Site.{sum}
 use Rattle.plain.proofs.Tests.{by-test}
 use Rattle.plain.proofs.Sums.{sum-same}
-use Rattle.slots.specs.declared.Slot.{Slot}
 use Rattle.slots.specs.Meaning.{freeSlot, slotAt}
 use Rattle.slots.specs.Rules.{Holds}
 use Rattle.store.specs.Store.{Store, Shaped}

@@ -3,11 +3,11 @@ use Prim.Native.Nat.{ℕ, _+_, _*_, _-_, _%_, _<_, _≤_}
 use mathlib.Core.Path.{_≡_}
 use mathlib.Core.Option.{none}
 use mathlib.Core.List.{List, map}
-use Rattle.slots.specs.Steps.{triedBy, afterStep, Marked}
+use Rattle.slots.specs.Steps.{triedBy}
 use Rattle.places.specs.Moves.{Moved}
 use lib.ListN.{length, getD, drop, set}
 use Rattle.plain.specs.Sizes.{keptCount, wideWord}
-use Rattle.plain.specs.Ops.{Ran, leaves}
+use Rattle.plain.specs.Ops.{Ran}
 use Rattle.plain.specs.Queue as Q
 use Rattle.plain.specs.Steps as K
 use Rattle.plain.specs.Site as S

@@ -3,15 +3,14 @@
 use Prim.Native.Nat.{_+_, _*_, _-_, _<_, _≤_}
 use native.Mathlib.Omega.{arith}
 use native.Mathlib.Numerals.{add-one}
-use mathlib.Core.Path.{_≡_, sym, _∙_}
+use mathlib.Core.Path.{sym, _∙_}
 use mathlib.Core.Bool.{false, _&&_}
 use lib.Dec.{eqb}
-use lib.ListN.{length}
 use borrow.Author.Needs.{needs}
 use borrow.Author.Tests.{eq-eqb, ne-eqb}
 use Rattle.plain.specs.Sizes.{classCount, slotCount}
 use Rattle.plain.specs.Decides.{Decides}
-use Rattle.store.specs.Store.{Shaped, Store, placeCount}
+use Rattle.store.specs.Store.{Shaped, Store}
 use Rattle.store.specs.Checks.{arrays, nth, Fresh, OnceIn, Upto}
 use Rattle.store.proofs.Walk.{at-start, at-end, too-high, is-free, other-class, marked-before, turn}
 use Rattle.store.proofs.Once.{Seen, none-seen, one-seen, not-once, at-last}

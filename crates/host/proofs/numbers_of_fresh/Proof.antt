@@ -1,7 +1,7 @@
 -- Nine where nothing was refused, else the refusal. Assumes nothing.
 use Prim.Native.Nat.{ℕ, zero, suc}
 use mathlib.Core.Path.{_≡_, refl}
-use mathlib.Core.List.{List, [], _∷_}
+use mathlib.Core.List.{[], _∷_}
 use Rattle.plain.specs.Steps.{refused}
 use Rattle.host.specs.Told.{told, toldFresh}
 use Rattle.host.proofs.numbers_of_fresh.Statement.{statement}
