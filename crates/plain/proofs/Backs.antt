@@ -14,7 +14,7 @@ use Rattle.plain.specs.Queue.{Item, isExecuted, idIs, isConfirmed, entry
 use Rattle.plain.specs.Steps.{Class, Did, newEntry, tried, advanced, workOn, workStep, offerStep}
 use Rattle.plain.specs.Steps.{numbered, backed, moved, confirmOn, confirmStep}
 use Rattle.plain.specs.Site.{Site, Call, offer, work, confirm, read, look, call, act, accepts, classOf, freeSlot, inClass, given}
-use Rattle.plain.specs.Sound.{All, SoundSite}
+use Rattle.plain.specs.Sound.{All, AtMost, SoundSite}
 use Rattle.plain.proofs.Tests.{by-test}
 use Rattle.plain.proofs.Queues.{all-append, all-drop, all-before, all-first, all-map}
 use Rattle.plain.proofs.Confirming.{moved-is}
@@ -44,9 +44,6 @@ module _ (P : Item → Type 0) where
           (all-before P (numbered n e) (without i q) (f e (all-first P (idIs i) q e en h)) (all-drop P (idIs i) q h))
 
 -- THE BOUND
-abbrev pub AtMost : ℕ → Item → Type 0
-AtMost top e = e .backs ≤ top
-
 more : (top top′ : ℕ) → top ≤ top′ → (q : List Item) → All (AtMost top) q → All (AtMost top′) q
 more top top′ l q h = all-map (AtMost top) (AtMost top′) (λ e b. omega arith) q h
 

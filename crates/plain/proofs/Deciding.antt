@@ -2,7 +2,7 @@
 use Prim.Native.Nat.{ℕ, zero, suc, _+_, _<_, _≤_}
 use native.Mathlib.Omega.{arith}
 use mathlib.Core.Path.{_≡_, refl}
-use mathlib.Core.Bool.{Bool, true, false, cond, not, _&&_}
+use mathlib.Core.Bool.{Bool, true, false, not, _&&_}
 use mathlib.Core.List.{List, [], _∷_}
 use lib.Dec.{ltb, leb, eqb}
 use borrow.Author.Count.{below-more}
@@ -42,23 +42,12 @@ pub decides-le : (a b : ℕ) → Decides (leb a b) (a ≤ b)
 decides-le a b = decided (leb-true a b) (le-leb a b)
 
 -- tests of tests
-pub decides-not : (b : Bool) → Decides (not b) (b ≡ false)
-decides-not b = decided (not-true b) (λ e. rw e)
-
 pub decides-both : {a b : Bool} {P Q : Type 0} → Decides a P → Decides b Q → Decides (a && b) (P × Q)
 decides-both {a} {b} {P} {Q} p q = decided (go a p) (λ h. rw (holds p (h .0)) (holds q (h .1)))
   where
     go : (a : Bool) → Decides a P → (a && b) ≡ true → P × Q
     go true p e = (p .yes refl, q .yes e)
     go false p e = no _ e refl
-
--- a rule that applies only where another holds
-pub decides-if : {a b : Bool} {P Q : Type 0} → Decides a P → Decides b Q → Decides (cond a b true) (P → Q)
-decides-if {a} {b} {P} {Q} p q = go a p
-  where
-    go : (a : Bool) → Decides a P → Decides (cond a b true) (P → Q)
-    go true p = decided (λ e h. q .yes e) (λ f. holds q (f (p .yes refl)))
-    go false p = decided (λ e h. absurd (p .no refl h)) (λ f. refl)
 
 -- lists
 abbrev pub allTest : {A : Type 0} → (A → Bool) → List A → Bool
@@ -102,7 +91,3 @@ pub decides-more : {a b : Bool} (P : ℕ → Type 0) (i : ℕ) → Decides a ((k
     → Decides (a && b) ((k : ℕ) → k < i + 1 → P k)
 decides-more P i d e =
     decides-as (λ h. below-more P i (h .0) (h .1)) (λ h. ((λ k l. h k (omega arith)), h i (omega arith))) (decides-both d e)
-
--- a test decides
-pub decision : {b : Bool} {P : Type 0} → Decides b P → Dec P
-decision {b} t = by-test b (λ y. yes (t .yes y)) (λ f. Dec.no (t .no f))

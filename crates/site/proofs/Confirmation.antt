@@ -7,13 +7,12 @@ use mathlib.Core.List.{List}
 use Rattle.plain.specs.Steps as K
 use Rattle.plain.specs.Site as S
 use Rattle.slots.specs.Meaning.{slotAt}
-use Rattle.slots.specs.Rules.{Holds}
 use Rattle.store.specs.Store.{Store, Shaped}
 use Rattle.store.specs.Meaning.{lenOf}
 use Rattle.store.specs.Calls.{State, Did}
 use Rattle.store.specs.Steps.{headSlot, numberedStore, PlaceOf, FirstWaiting, Backable, Commitable, CommitDone, PutBack, Forward}
 use Rattle.store.proofs.Commit.{head-small}
-use Rattle.store.proofs.Confirming.{class-here, held, stands-once, queue-some, may-be-put-back, may-commit, committed-now}
+use Rattle.store.proofs.Confirming.{class-here, stands-once, queue-some, may-be-put-back, may-commit, committed-now}
 use Rattle.store.proofs.Confirmed.{Movable, forward, Goes, itself, behind-confirmed, head-put-back}
 use Rattle.store.proofs.Work.{work-left}
 use Rattle.site.specs.Held.{InQueue, Confirmable, HeadDone}
@@ -30,9 +29,6 @@ module _ (x : State) (w : Shaped (x .site)) (i : ℕ) (f : Confirmable x i) wher
 
   pub small-class : c < 16
   small-class = class-here x w (f .right) (f .sound) id n (f .more) refl i (f .small) refl (f .used) .1
-
-  pub holds-it : Holds (slotAt (x .site .slots) i)
-  holds-it = held x w (f .right) (f .sound) id n (f .more) refl i (f .small) refl (f .used) (f .waits)
 
   pub some-queued : 0 < lenOf (x .site) c
   some-queued = queue-some x w (f .right) (f .sound) id n (f .more) refl i (f .small) refl (f .used) (f .waits)

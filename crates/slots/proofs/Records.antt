@@ -1,7 +1,7 @@
 -- The rules of one slot, by places and as a valid record: what holds of all of a list holds at each place, and back. Assumes nothing.
 use Prim.Native.Nat.{ℕ, zero, suc, _+_, _-_, _<_, _≤_}
 use native.Mathlib.Omega.{arith}
-use mathlib.Core.Path.{_≡_, refl, sym, ap, _∙_, subst}
+use mathlib.Core.Path.{_≡_, sym, ap, _∙_, subst}
 use mathlib.Core.Bool.{true}
 use mathlib.Core.List.{List, [], _∷_, map}
 use lib.ListN.{length, getD, take, drop, replicate, length-map, length-drop, length-replicate, getD-replicate}
@@ -50,9 +50,6 @@ pub record Held (v : Slot) : Type 0 where
 -- a free slot's operations
 pub free-zero : (v : Slot) → v ≡ freeSlot → OpsZero v
 free-zero v e = subst OpsZero (sym e) (λ k l. getD-replicate mostOps k noOp noOp l)
-
-pub free-ops : (v : Slot) → v ≡ freeSlot → OpsOk v
-free-ops v e = subst OpsOk (sym e) (λ k l. record { within = λ s. absurd (omega arith); past = λ s. free-zero freeSlot refl k l })
 
 module _ (v : Slot) (seven : length (v .ops) ≡ mostOps) where
   pub zeros-from : (n : ℕ) → n ≤ mostOps → ((k : ℕ) → k < mostOps → n ≤ k → opAt v k ≡ noOp)

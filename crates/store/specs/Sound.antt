@@ -31,7 +31,7 @@ stands c v = cond (isUsed v && eqb (v .class) c) 1 0
 abbrev pub SlotsOk : Store → Type 0
 SlotsOk s = (i : ℕ) → i < slotCount → (slotAt (s .slots) i ≡ freeSlot) ⊎ Holds (slotAt (s .slots) i)
 
--- no count of times put back is above `top`; a free slot's is 0
+-- no count of times put back is above `top`
 abbrev pub BacksOk : List Slot → ℕ → Type 0
 BacksOk l top = (i : ℕ) → i < slotCount → slotAt l i .backs ≤ top
 

@@ -42,15 +42,21 @@ returns-6 c = decides-false (λ h. c .before .in-order .ensures .no (not-true _ 
 returns-7 : tie.Need-returns-7
 returns-7 c =
     let numbered· = c .numbered in
-    let args· = c .before .before .before .before .before .before .before .before .before .before .before .before .before .args in
+    let c₁ = c .before in
+    let c₂ = c₁ .before .before in
+    let c₃ = c₂ .before .before in
+    let c₄ = c₃ .before .before in
+    let c₅ = c₄ .before .before in
+    let c₆ = c₅ .before .before in
+    let args· = c₆ .before .before .args in
     decides-as
     (λ e. record {
-      short = c .before .before .before .before .before .before .before .before .before .before .before .before .lens-short .ensures .yes (not-false _ (c .before .before .before .before .before .before .before .before .before .before .before .if1 .left));
-      tails = c .before .before .before .before .before .before .before .before .before .before .tails-zero .ensures .yes (not-false _ (c .before .before .before .before .before .before .before .before .before .if2 .left));
-      map = c .before .before .before .before .before .before .before .before .map-agrees .ensures .yes (not-false _ (c .before .before .before .before .before .before .before .if3 .left));
-      once = c .before .before .before .before .before .before .each-once .ensures .yes (not-false _ (c .before .before .before .before .before .if4 .left));
-      differ = c .before .before .before .before .pairs-differ .ensures .yes (not-false _ (c .before .before .before .if5 .left));
-      places = c .before .before .in-order .ensures .yes (not-false _ (c .before .if6 .left));
+      short = c₆ .before .lens-short .ensures .yes (not-false _ (c₆ .if1 .left));
+      tails = c₅ .before .tails-zero .ensures .yes (not-false _ (c₅ .if2 .left));
+      map = c₄ .before .map-agrees .ensures .yes (not-false _ (c₄ .if3 .left));
+      once = c₃ .before .each-once .ensures .yes (not-false _ (c₃ .if4 .left));
+      differ = c₂ .before .pairs-differ .ensures .yes (not-false _ (c₂ .if5 .left));
+      places = c₁ .before .in-order .ensures .yes (not-false _ (c₁ .if6 .left));
       tally = omega (arith, e, numbered· .ensures);
     })
     (λ h. omega (arith, h .tally, numbered· .ensures))

@@ -25,7 +25,7 @@ element-copy-out-v c =
     head-small (store (args· .t1)) (shaped (args· .t1) _ (c₁ .good .0)) (pre· .laid) (args· .c) (pre· .class) (pre· .some)
 
 add-v : tie.Need-add-v
-add-v c = record { fits = c .before .before .before .before .before .before .before .before .before .pre .fits }
+add-v c = record { fits = omega (arith, c .before .before .before .before .before .before .before .before .before .pre .fits) }
 
 mul-v-2 : tie.Need-mul-v-2
 mul-v-2 c =
