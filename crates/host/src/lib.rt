@@ -114,13 +114,13 @@ pub extern "C" fn shpendorak_fresh(
 ) -> Site
     ensures { λ r. ⌜ ToldFresh (now (committed .entry)) (now (working .entry)) (store r) (now (committed .exit)) (now (working .exit)) (now (answer .exit)) ⌝ }
 {
-    let started = Site::fresh(committed, working);
+    let started = promised::fresh(committed, working);
     let site = started.site;
     *answer = numbers_of_fresh(started.refused);
     site
 }
 
-// Queues the request of a record; or refuses with 1, 2, 3, 4 or 5.
+// Queues the request of a record; or refuses with 1, 2, 3, 4, 14 or 5.
 #[no_mangle]
 pub extern "C" fn shpendorak_offer(
     site: Site,
@@ -131,7 +131,7 @@ pub extern "C" fn shpendorak_offer(
 ) -> Site
     ensures { λ r. ⌜ Told (stateOf site (now (committed .entry)) (now (working .entry))) (offer (now (booking .entry))) (stateOf r (now (committed .entry)) (now (working .entry))) (now (answer .exit)) ⌝ }
 {
-    let reply = site.offer(committed, working, booking);
+    let reply = promised::offer(site, committed, working, booking);
     let next = reply.site;
     let given = reply.answer;
     *answer = numbers_of(given);
@@ -150,7 +150,7 @@ pub extern "C" fn shpendorak_confirm(
 ) -> Site
     ensures { λ r. ⌜ Told (stateOf site (now (committed .entry)) (now (working .entry))) (confirm id number) (stateOf r (now (committed .exit)) (now (working .exit))) (now (answer .exit)) ⌝ }
 {
-    let reply = site.confirm(committed, working, id, number);
+    let reply = promised::confirm(site, committed, working, id, number);
     let next = reply.site;
     let given = reply.answer;
     *answer = numbers_of(given);
@@ -168,7 +168,7 @@ pub extern "C" fn shpendorak_work(
 ) -> Site
     ensures { λ r. ⌜ Told (stateOf site (now (committed .entry)) (now (working .entry))) (work class) (stateOf r (now (committed .exit)) (now (working .exit))) (now (answer .exit)) ⌝ }
 {
-    let reply = site.work(committed, working, class);
+    let reply = promised::work(site, committed, working, class);
     let next = reply.site;
     let given = reply.answer;
     *answer = numbers_of(given);
@@ -187,7 +187,7 @@ pub extern "C" fn shpendorak_read(
 ) -> Site
     ensures { λ r. ⌜ Told (stateOf site (now (committed .entry)) (now (working .entry))) (read class cell) (stateOf r (now (committed .entry)) (now (working .entry))) (now (answer .exit)) ⌝ }
 {
-    let given = site.read(committed, working, class, cell);
+    let given = promised::read(site, committed, working, class, cell);
     *answer = numbers_of(given);
     site
 }
@@ -203,7 +203,7 @@ pub extern "C" fn shpendorak_look(
 ) -> Site
     ensures { λ r. ⌜ Told (stateOf site (now (committed .entry)) (now (working .entry))) (look id) (stateOf r (now (committed .entry)) (now (working .entry))) (now (answer .exit)) ⌝ }
 {
-    let given = site.look(committed, working, id);
+    let given = promised::look(site, committed, working, id);
     *answer = numbers_of(given);
     site
 }

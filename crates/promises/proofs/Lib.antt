@@ -1,4 +1,5 @@
 -- The promises kept, each file resting on those above it.
+pub mod Made
 pub mod Answers
 pub mod Stands
 pub mod Demand1
