@@ -7,6 +7,8 @@ use lib.Dec.{eqb}
 use lib.ListN.{getD}
 use Rattle.plain.specs.Steps.{Answer, refused, queued, stepped, executed, committed, waiting, value, toDo, unconfirmed}
 use Rattle.plain.specs.Site.{Call}
+use Rattle.site.specs.declared.Answer as D
+use Rattle.site.specs.Held.{answerOf}
 use Rattle.text.specs.Calls as T
 use Rattle.text.proofs.Laws.{one-outcome-of-write, one-outcome-of-read}
 use Rattle.store.specs.Store.{Store}
@@ -17,6 +19,9 @@ use Rattle.host.specs.Told.{told, toldFresh, toldText, Told, ToldFresh, 
 -- what is told of a value whose case is known
 pub known : {A : Type 0} (f : A → List ℕ) (a b : A) (t : List ℕ) → a ≡ b → t ≡ f b → t ≡ f a
 known f a b t e h = rw e h
+
+pub known-answer : (a b : D.Answer) (l : List ℕ) → a ≡ b → l ≡ told (answerOf b) → l ≡ told (answerOf a)
+known-answer = known (λ x. told (answerOf x))
 
 -- the answer that six numbers tell: what it is, and its numbers
 abbrev answerAt : ℕ → (ℕ → ℕ) → Answer

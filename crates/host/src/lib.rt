@@ -41,45 +41,63 @@ const BAD_TEXT: u64 = 15;
 
 const SHORT_BUFFER: u64 = 16;
 
-// An answer as its six numbers.
-fn numbers_of(answer: Answer) -> [u64; NUMBERS]
-    ensures { λ r. ⌜ r ≡ told (answerOf answer) ⌝ }
+// Writes the six numbers of an answer.
+fn tell(answer: Answer, out: &mut [u64; NUMBERS])
+    ensures { λ _. ⌜ now (out .exit) ≡ told (answerOf answer) ⌝ }
 {
     match answer {
-        Answer::Refused(n) => [REFUSED, n as u64, 0, 0, 0, 0],
+        Answer::Refused(n) => {
+            *out = [REFUSED, n as u64, 0, 0, 0, 0];
+        }
         Answer::Queued {
             id,
             class,
             place,
             slot,
-        } => [
-            QUEUED,
-            id as u64,
-            class as u64,
-            place as u64,
-            slot as u64,
-            0,
-        ],
-        Answer::Stepped { id, done } => [STEPPED, id as u64, done as u64, 0, 0, 0],
-        Answer::Executed { id } => [EXECUTED, id as u64, 0, 0, 0, 0],
+        } => {
+            *out = [
+                QUEUED,
+                id as u64,
+                class as u64,
+                place as u64,
+                slot as u64,
+                0,
+            ];
+        }
+        Answer::Stepped { id, done } => {
+            *out = [STEPPED, id as u64, done as u64, 0, 0, 0];
+        }
+        Answer::Executed { id } => {
+            *out = [EXECUTED, id as u64, 0, 0, 0, 0];
+        }
         Answer::Committed {
             id,
             number,
             mark,
             slot,
             backs,
-        } => [
-            COMMITTED,
-            id as u64,
-            number as u64,
-            mark as u64,
-            slot as u64,
-            backs,
-        ],
-        Answer::Waiting { id, w, back } => [WAITING, id as u64, w as u64, back as u64, 0, 0],
-        Answer::Value(n) => [VALUE, n as u64, 0, 0, 0, 0],
-        Answer::ToDo { w, backs } => [TO_DO, w as u64, backs, 0, 0, 0],
-        Answer::Unconfirmed { backs } => [UNCONFIRMED, backs, 0, 0, 0, 0],
+        } => {
+            *out = [
+                COMMITTED,
+                id as u64,
+                number as u64,
+                mark as u64,
+                slot as u64,
+                backs,
+            ];
+        }
+        Answer::Waiting { id, w, back } => {
+            *out = [WAITING, id as u64, w as u64, back as u64, 0, 0];
+        }
+        Answer::Value(n) => {
+            *out = [VALUE, n as u64, 0, 0, 0, 0];
+        }
+        Answer::ToDo { w, backs } => {
+            *out = [TO_DO, w as u64, backs, 0, 0, 0];
+        }
+        Answer::Unconfirmed { backs } => {
+            *out = [UNCONFIRMED, backs, 0, 0, 0, 0];
+        }
     }
 }
 
@@ -132,9 +150,9 @@ pub extern "C" fn shpendorak_offer(
     ensures { λ r. ⌜ Told (stateOf site (now (committed .entry)) (now (working .entry))) (offer (now (booking .entry))) (stateOf r (now (committed .entry)) (now (working .entry))) (now (answer .exit)) ⌝ }
 {
     let reply = promised::offer(site, committed, working, booking);
-    let next = reply.site;
     let given = reply.answer;
-    *answer = numbers_of(given);
+    tell(given, answer);
+    let next = reply.site;
     next
 }
 
@@ -151,9 +169,9 @@ pub extern "C" fn shpendorak_confirm(
     ensures { λ r. ⌜ Told (stateOf site (now (committed .entry)) (now (working .entry))) (confirm id number) (stateOf r (now (committed .exit)) (now (working .exit))) (now (answer .exit)) ⌝ }
 {
     let reply = promised::confirm(site, committed, working, id, number);
-    let next = reply.site;
     let given = reply.answer;
-    *answer = numbers_of(given);
+    tell(given, answer);
+    let next = reply.site;
     next
 }
 
@@ -169,9 +187,9 @@ pub extern "C" fn shpendorak_work(
     ensures { λ r. ⌜ Told (stateOf site (now (committed .entry)) (now (working .entry))) (work class) (stateOf r (now (committed .exit)) (now (working .exit))) (now (answer .exit)) ⌝ }
 {
     let reply = promised::work(site, committed, working, class);
-    let next = reply.site;
     let given = reply.answer;
-    *answer = numbers_of(given);
+    tell(given, answer);
+    let next = reply.site;
     next
 }
 
@@ -188,7 +206,18 @@ pub extern "C" fn shpendorak_read(
     ensures { λ r. ⌜ Told (stateOf site (now (committed .entry)) (now (working .entry))) (read class cell) (stateOf r (now (committed .entry)) (now (working .entry))) (now (answer .exit)) ⌝ }
 {
     let given = promised::read(site, committed, working, class, cell);
-    *answer = numbers_of(given);
+    // What read answers is told here: so the answer takes no stack.
+    match given {
+        Answer::Refused(n) => {
+            *answer = [REFUSED, n as u64, 0, 0, 0, 0];
+        }
+        Answer::Value(n) => {
+            *answer = [VALUE, n as u64, 0, 0, 0, 0];
+        }
+        _ => {
+            tell(given, answer);
+        }
+    }
     site
 }
 
@@ -204,7 +233,7 @@ pub extern "C" fn shpendorak_look(
     ensures { λ r. ⌜ Told (stateOf site (now (committed .entry)) (now (working .entry))) (look id) (stateOf r (now (committed .entry)) (now (working .entry))) (now (answer .exit)) ⌝ }
 {
     let given = promised::look(site, committed, working, id);
-    *answer = numbers_of(given);
+    tell(given, answer);
     site
 }
 
