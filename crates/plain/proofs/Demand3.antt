@@ -25,7 +25,7 @@ use Rattle.plain.proofs.Turn.{Turn, turn, from-sound}
 -- the end of a request is its commit; an answer that speaks of others is not
 ends-commits : (i n : ℕ) (a : Answer) → Ends (idIs i) n a → Commits a i n
 ends-commits i n a e = record {
-  declined = e .it .mark;
+  mark = e .it .mark;
   slot = e .it .slot;
   backs = e .it .backs;
   says = e .says ∙ rw (eqb-true (idOf (e .it)) i (e .passes), e .at);
@@ -67,7 +67,7 @@ Started i n backs d = Commits (d .answer) i n ⊎ ((W : ℕ) × (back : ℕ) × 
 
 start : (c top i n : ℕ) (k : Class) (d : Did) → SoundClass c top k → SoundClass c n (d .class) → confirmedAt (entryOf i (k .queue)) ≡ false
     → Confirms i n k d → Started i n (backsAt (entryOf i (k .queue))) d
-start c top i n k d s s′ f (at-once x b sl bk en p p′ r a t) = inl (record { declined = b; slot = sl; backs = bk; says = a })
+start c top i n k d s s′ f (at-once x b sl bk en p p′ r a t) = inl (record { mark = b; slot = sl; backs = bk; says = a })
 start c top i n k d s s′ f (later x y back en m e p z a t) =
     let no = not-there (idIs i) 0 top (k .queue) (s .order) f in
     let r = part-first (idIs i) 0 n (d .class .queue) (confirmedPart (k .queue)) y [] (s′ .order) p no (m .id) in

@@ -29,10 +29,10 @@ Counted m (p ∷ ps) = (p .0 ≡ suc m) × Counted (suc m) ps
 
 -- the answer says that the request i is committed under number n
 pub record Commits (a : Answer) (i n : ℕ) : Type 0 where
-  pub declined : ℕ
+  pub mark : ℕ
   pub slot : ℕ
   pub backs : ℕ
-  pub says : a ≡ committed i n declined slot backs
+  pub says : a ≡ committed i n mark slot backs
 
 -- the W of an accepted confirmation's answer: 0 for a commit
 abbrev pub wOf : Answer → ℕ
@@ -87,7 +87,7 @@ Shows a backs = ((w : ℕ) × (a ≡ toDo w backs)) ⊎ (a ≡ unconfirmed backs
 pub record CountedBack (h : List Call) : Type 0 where
   pub of-queued : (c : ℕ) → c < classCount → All (λ e. e .backs ≡ putBacks (idOf e) h) (after h .class c .queue)
   pub of-looked : (i backs : ℕ) → Shows (call (after h) (look i) .answer) backs → backs ≡ putBacks i h
-  pub of-committed : (k : Call) (i n declined slot backs : ℕ) → call (after h) k .answer ≡ committed i n declined slot backs → backs ≡ putBacks i h
+  pub of-committed : (k : Call) (i n mark slot backs : ℕ) → call (after h) k .answer ≡ committed i n mark slot backs → backs ≡ putBacks i h
 
 -- the class in which a call works
 abbrev pub home : Site → Call → ℕ
@@ -137,8 +137,8 @@ pub record Frees (s : Site) (k : Call) (o : Outcome) (r : Request) (j : ℕ) : T
   pub number : ℕ
   pub confirmed : 0 < number
   pub both : BringsBoth k r (kept .it) number
-  pub declined : ℕ
-  pub says : o .answer ≡ committed (r .id) number declined j (kept .it .backs)
+  pub mark : ℕ
+  pub says : o .answer ≡ committed (r .id) number mark j (kept .it .backs)
   pub free : isFree (o .site) j ≡ true
 
 -- the answer says that a request is given slot j

@@ -1,4 +1,4 @@
--- The answer of a plain call is a refusal exactly where the table gives a number, which is 3 to 12, and then that number. Assumes nothing.
+-- The answer of a plain call is a refusal exactly where the table gives a number, which is 3 to 12 or 14, and then that number. Assumes nothing.
 use Prim.Native.Nat.{ℕ, _<_, _≤_}
 use native.Mathlib.Omega.{arith}
 use mathlib.Core.Path.{_≡_, refl, sym, ap, _∙_}
@@ -80,7 +80,7 @@ pub number-answer : (s : Site) (k : Call) (n : ℕ) → 0 < n → refusal s k �
 number-answer s k n l e =
     refused-answers s k (ne-eqb (refusal s k) 0 (λ z. omega arith)) ∙ ap refused e
 
--- the table's numbers are 3 to 12, and 14
+-- the table's numbers are 3 to 12 and 14
 abbrev Listed : ℕ → Type 0
 Listed m = (3 ≤ m) × (m ≤ 14) × (m ≡ 13 → ⊥)
 

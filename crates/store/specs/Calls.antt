@@ -40,8 +40,8 @@ pub record Refused (n : ℕ) (x y : State) (a : Answer) : Type 0 where
   pub untouched : y ≡ x
   pub answer : a ≡ refused n
 
--- THE CONTRACT. Wrong cells: 1; an unsound site: 2; else the plain call, which may be a refusal 3 to 12 and then leaves the plain site, and so
--- the site. Whether a site is sound is decided, so the three cases are all
+-- THE CONTRACT. Wrong cells: 1; an unsound site: 2; else the plain call, which may be a refusal 3 to 12 or 14 and then leaves the plain site,
+-- and so the site. Whether a site is sound is decided, so the three cases are all
 pub record Called (x : State) (k : Call) (y : State) (a : Answer) : Type 0 where
   pub wrong-cells : (RightCells x → ⊥) → Refused 1 x y a
   pub unsound : RightCells x → (SoundState x → ⊥) → Refused 2 x y a
