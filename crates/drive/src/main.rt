@@ -119,6 +119,6 @@ fn run(mut site: Site, committed: &mut [u32], working: &mut [u32]) {
 fn main() {
     let mut committed = [0u32; 1024];
     let mut working = [0u32; 1024];
-    let start = Site::fresh(&mut committed, &mut working);
+    let start = promised::fresh(&mut committed, &mut working);
     run(start.site, &mut committed, &mut working);
 }
