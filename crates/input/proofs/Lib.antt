@@ -1,0 +1,2 @@
+-- the laws of cutting
+pub mod Cutting
