@@ -1,0 +1,2 @@
+-- an outcome that is no length
+pub mod Outcomes
