@@ -4,7 +4,7 @@ use native.Mathlib.Omega.{arith}
 use mathlib.Core.Path.{_≡_, refl, sym, ap, _∙_, subst}
 use mathlib.Core.Bool.{true}
 use mathlib.Core.Option.{Option, none, some, Option·none-ne-some, Option·some-injective}
-use mathlib.Core.List.{List}
+use mathlib.Core.List.{List, _++_}
 use lib.Dec.{ltb}
 use lib.ListN.{length, take, drop}
 use lib.Seq.{take-append-seam}
@@ -148,3 +148,8 @@ wrote-at-most-168 bytes before a n after h e =
     (λ r q.
     let w = whole (textOf r) before n after (subst (λ (x : Answer). Handed (textOf r) before x after) e (h .is-record r q)) in
     omega (arith, w .long, at-most-168 r (valid-request bytes r q)))
+
+-- and a buffer with room for one takes any
+pub with-room : (bytes before : List ℕ) (a : Answer) (after : List ℕ) (r : Request) → 168 ≤ length before → request bytes ≡ some r
+    → Wrote bytes before a after → (a ≡ wrote (length (textOf r))) × (after ≡ textOf r ++ drop (length (textOf r)) before)
+with-room bytes before a after r l e h = h .is-record r e .fits (omega (arith, at-most-168 r (valid-request bytes r e)))
