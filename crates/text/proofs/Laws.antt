@@ -149,7 +149,10 @@ wrote-at-most-168 bytes before a n after h e =
     let w = whole (textOf r) before n after (subst (λ (x : Answer). Handed (textOf r) before x after) e (h .is-record r q)) in
     omega (arith, w .long, at-most-168 r (valid-request bytes r q)))
 
+pub no-longer : (bytes : List ℕ) (r : Request) → request bytes ≡ some r → length (textOf r) ≤ 168
+no-longer bytes r e = at-most-168 r (valid-request bytes r e)
+
 -- and a buffer with room for one takes any
 pub with-room : (bytes before : List ℕ) (a : Answer) (after : List ℕ) (r : Request) → 168 ≤ length before → request bytes ≡ some r
     → Wrote bytes before a after → (a ≡ wrote (length (textOf r))) × (after ≡ textOf r ++ drop (length (textOf r)) before)
-with-room bytes before a after r l e h = h .is-record r e .fits (omega (arith, at-most-168 r (valid-request bytes r e)))
+with-room bytes before a after r l e h = h .is-record r e .fits (omega (arith, no-longer bytes r e))
