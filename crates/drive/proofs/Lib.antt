@@ -1,0 +1,2 @@
+-- how listing goes on from event to event and from block to block
+pub mod Listing
