@@ -1,7 +1,7 @@
 -- Listing goes on from event to event and from block to block, and a run from fresh with it. Assumes nothing.
-use Prim.Native.Nat.{ℕ, zero, suc, _+_, _-_, _*_, _≤_, _<_, _%_, _^_}
+use Prim.Native.Nat.{ℕ, suc, _+_, _-_, _*_, _≤_, _<_, _%_, _^_}
 use native.Mathlib.Omega.{arith}
-use mathlib.Core.Path.{_≡_, refl, sym, ap, _∙_, subst}
+use mathlib.Core.Path.{_≡_, refl, sym, _∙_, subst}
 use mathlib.Core.Option.{Option, none, some}
 use mathlib.Core.List.{List, [], _∷_, _++_, append-assoc, append-nil}
 use lib.ListN.{length, take, drop, length-append}
@@ -9,7 +9,7 @@ use Rattle.plain.specs.Site.{Call}
 use Rattle.store.specs.Calls.{State}
 use Rattle.promises.specs.Runs.{FromFresh}
 use Rattle.event.specs.Event.{eventSize, callOf, Listed}
-use Rattle.input.specs.Pieces.{pieces, behind}
+use Rattle.input.specs.Pieces.{behind}
 use Rattle.input.proofs.Cutting.{no-piece, piece-at, none-at, short-at, pieces-append}
 use Rattle.drive.specs.Listing.{eventsOf, ListsOne, Lists, done, next, asked, callsOf, Ran}
 

@@ -1,7 +1,7 @@
 -- The pieces of an input: the first and those behind it, and that cutting goes on across the end of a whole block. Assumes nothing.
 use Prim.Native.Nat.{ℕ, zero, suc, _+_, _-_, _*_, _≤_, _<_}
 use native.Mathlib.Omega.{arith}
-use mathlib.Core.Path.{_≡_, refl, sym, ap, _∙_}
+use mathlib.Core.Path.{_≡_, refl, ap, _∙_}
 use mathlib.Core.List.{List, [], _∷_, _++_}
 use lib.ListN.{length, take, drop, length-drop, length-append, drop-of-length-le}
 use lib.Seq.{take-all, take-append-le, drop-append-le, drop-drop}
@@ -63,10 +63,3 @@ module _ (n : ℕ) (p : 1 ≤ n) where
       let m : length (drop n a) ≡ n * k = omega (arith, length-drop n a) in
       first-piece (a ++ b) (omega (arith, length-append a b))
       ∙ rw (take-append-le n a b l, drop-append-le n a b l, pieces-append k (drop n a) b m, first-piece a (omega arith))
-
-  -- how many whole ones there are
-  pub whole-pieces : (k : ℕ) (a : List ℕ) → length a ≡ n * k → length (pieces n a) ≡ k
-  whole-pieces zero [] h = rw no-piece
-  whole-pieces zero (x ∷ a) h = absurd (omega arith)
-  whole-pieces (suc k) a h =
-      ap length (first-piece a (omega arith)) ∙ ap suc (whole-pieces k (drop n a) (omega (arith, length-drop n a)))

@@ -1,2 +1,3 @@
--- the laws of cutting
+-- the laws of cutting, and inputs cut
 pub mod Cutting
+pub mod Examples

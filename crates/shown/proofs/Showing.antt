@@ -1,7 +1,7 @@
 -- Showing goes on from record to record, and from block to block. Assumes nothing.
-use Prim.Native.Nat.{ℕ, suc, _+_, _-_, _*_, _≤_, _<_, _%_, _^_}
+use Prim.Native.Nat.{ℕ, _+_, _-_, _*_, _≤_, _<_, _^_}
 use native.Mathlib.Omega.{arith}
-use mathlib.Core.Path.{_≡_, refl, sym, ap, _∙_, subst}
+use mathlib.Core.Path.{_≡_, refl, sym, ap, _∙_}
 use mathlib.Core.Bool.{true, false, cond}
 use mathlib.Core.Option.{some, none}
 use mathlib.Core.List.{List, [], _∷_, _++_, map, append-assoc, append-nil}
@@ -14,9 +14,9 @@ use Rattle.plain.specs.Record.{isRecord, requestIn, request}
 use Rattle.plain.specs.Sound.{All}
 use Rattle.plain.proofs.Tests.{by-test, no}
 use Rattle.text.specs.Text.{joined, textOf}
-use Rattle.text.specs.Calls.{Answer, wrote, refused, Handed, Wrote}
+use Rattle.text.specs.Calls.{Answer, wrote, refused, Wrote}
 use Rattle.text.proofs.Laws.{wrote-at-most-168, with-room}
-use Rattle.input.specs.Pieces.{pieces, behind}
+use Rattle.input.specs.Pieces.{behind}
 use Rattle.input.proofs.Cutting.{no-piece, piece-at, none-at, short-at, pieces-append}
 use Rattle.shown.specs.Showing.{recordsOf, requests, texts, ShowsOne, Shows, Ran}
 

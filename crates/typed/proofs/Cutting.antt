@@ -1,16 +1,14 @@
 -- The bookings of a text: where the first ends, that nothing is lost, and that the cuts do not depend on where a block ends. Assumes nothing.
-use Prim.Native.Nat.{ℕ, zero, suc, _+_, _-_, _≤_, _<_}
+use Prim.Native.Nat.{ℕ, suc, _+_, _-_, _≤_, _<_}
 use native.Mathlib.Omega.{arith}
-use mathlib.Core.Path.{_≡_, refl, sym, ap, _∙_, subst}
-use mathlib.Core.Bool.{Bool, true, false}
+use mathlib.Core.Path.{_≡_, refl, sym, ap, _∙_}
+use mathlib.Core.Bool.{true, false}
 use mathlib.Core.List.{List, [], _∷_, _++_}
-use lib.Dec.{ltb}
-use lib.ListN.{length, getD, take, drop, length-append, length-take, length-drop, take-append-drop}
+use lib.ListN.{length, getD, take, drop, length-append, length-drop, take-append-drop}
 use lib.Seq.{getD-take, getD-drop, drop-drop, length-take-le}
-use borrow.Author.Tests.{ltb-true, ltb-false}
-use Rattle.plain.proofs.Tests.{by-test, no}
+use Rattle.plain.proofs.Tests.{by-test}
 use Rattle.text.specs.Text.{joined}
-use Rattle.typed.specs.Bookings.{parts, into, bookings, Begins, Ends}
+use Rattle.typed.specs.Bookings.{parts, into, bookings, Ends}
 
 -- THE FIRST BOOKING of a text begins with its first byte
 pub record First (x : ℕ) (t : List ℕ) : Type 0 where

@@ -1,5 +1,6 @@
--- where the bookings of a text are cut, how they are taken, and a run over blocks
+-- where the bookings of a text are cut, a booking that is too long, how bookings are taken, a run over blocks, and texts cut
 pub mod Cutting
 pub mod Longer
 pub mod Taking
 pub mod Runs
+pub mod Examples

@@ -1,15 +1,13 @@
 -- A text that is longer than any valid one is bad at the same line, whatever comes behind it. Assumes nothing.
-use Prim.Native.Nat.{ℕ, zero, suc, _+_, _-_, _≤_, _<_}
+use Prim.Native.Nat.{ℕ, zero, suc, _+_, _-_, _<_}
 use native.Mathlib.Omega.{arith}
 use mathlib.Core.Path.{_≡_, refl, sym, ap, _∙_}
-use mathlib.Core.Bool.{Bool, true, false}
 use mathlib.Core.List.{List, [], _∷_, _++_}
 use lib.Dec.{eqb}
-use lib.ListN.{length, length-append}
-use Rattle.plain.specs.Ops.{Request, valid}
+use lib.ListN.{length}
 use Rattle.plain.proofs.Tests.{by-test}
 use Rattle.text.specs.Text.{newline, textOf}
-use Rattle.text.specs.Lines.{firstLine, afterLine, lineBehind, Agree, FirstBad}
+use Rattle.text.specs.Lines.{firstLine, afterLine, Agree, FirstBad}
 use Rattle.text.proofs.OneText.{at-most-168}
 use Rattle.typed.specs.Taking.{longest}
 

@@ -1,8 +1,8 @@
 -- A RUN OVER BLOCKS takes what taking the whole input at once would: the same records, and the same refusal at the same place and line. Assumes
 -- nothing.
-use Prim.Native.Nat.{ℕ, zero, suc, _+_, _-_, _≤_, _<_, _%_, _^_}
+use Prim.Native.Nat.{ℕ, suc, _+_, _-_, _≤_, _<_}
 use native.Mathlib.Omega.{arith}
-use mathlib.Core.Path.{_≡_, refl, sym, ap, _∙_, subst}
+use mathlib.Core.Path.{_≡_, refl, sym, ap, _∙_}
 use mathlib.Core.Bool.{Bool, true, false, not, _&&_}
 use mathlib.Core.Option.{Option, none, some}
 use mathlib.Core.List.{List, [], _∷_, _++_, append-assoc, append-nil}
@@ -10,11 +10,8 @@ use lib.Dec.{ltb}
 use lib.ListN.{length, take, drop, length-append, take-append-drop}
 use lib.Seq.{drop-at, take-take, take-all}
 use borrow.Author.Tests.{ltb-true, le-ltb}
-use Rattle.plain.specs.Ops.{Request}
-use Rattle.plain.specs.Record.{request}
 use Rattle.plain.proofs.Tests.{by-test}
-use Rattle.text.specs.Text.{joined, textOf}
-use Rattle.text.specs.Lines.{FirstBad}
+use Rattle.text.specs.Text.{joined}
 use Rattle.text.specs.Calls.{Answer, wrote, refusedAt}
 use Rattle.text.proofs.Laws.{no-longer}
 use Rattle.input.specs.Pieces.{behind}

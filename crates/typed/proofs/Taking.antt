@@ -1,14 +1,14 @@
 -- Bookings are taken one after another from a block. Assumes nothing.
-use Prim.Native.Nat.{ℕ, zero, suc, _+_, _-_, _≤_, _<_, _%_, _^_}
+use Prim.Native.Nat.{ℕ, suc, _+_, _-_, _≤_, _<_, _^_}
 use native.Mathlib.Omega.{arith}
-use mathlib.Core.Path.{_≡_, refl, sym, ap, _∙_, subst}
+use mathlib.Core.Path.{_≡_, refl, sym, ap, _∙_}
 use mathlib.Core.Bool.{Bool, true, false, _||_}
 use mathlib.Core.Option.{Option, none, some}
 use mathlib.Core.List.{List, [], _∷_, _++_, append-assoc, append-nil}
 use lib.Dec.{ltb, leb}
 use lib.ListN.{length, take, drop, length-drop, drop-of-length-le}
 use lib.Seq.{take-all, take-at, drop-drop, length-take-le, take-append-add, take-append-seam}
-use borrow.Author.Tests.{ltb-true, ltb-false, leb-true, leb-false, le-leb, lt-ltb, le-ltb}
+use borrow.Author.Tests.{ltb-false, leb-true, le-leb, le-ltb}
 use Rattle.plain.specs.Sizes.{recordSize}
 use Rattle.plain.specs.Ops.{Request}
 use Rattle.plain.specs.Record.{request}
@@ -19,8 +19,8 @@ use Rattle.text.specs.Calls.{Answer, wrote, refusedAt, Took, took, bad}
 use Rattle.text.proofs.Encoding.{sixty-four}
 use Rattle.input.specs.Pieces.{behind}
 use Rattle.typed.specs.Bookings.{bookings, Ends}
-use Rattle.typed.specs.Taking.{Takes, all, one, stop, longest, goesOn, whole, answered, TakesBlock}
-use Rattle.typed.proofs.Cutting.{First, first, first-booking, booking-long}
+use Rattle.typed.specs.Taking.{Takes, all, one, stop, longest, goesOn, whole, TakesBlock}
+use Rattle.typed.proofs.Cutting.{first, first-booking, booking-long}
 
 -- READ, in what is lent on from `len` on, which has room for a record; `rest` stands behind it
 pub record TookOne (b records : List ℕ) (len : ℕ) (after : List ℕ) : Type 0 where
