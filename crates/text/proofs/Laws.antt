@@ -25,7 +25,7 @@ by-request none f g = f refl
 by-request (some r) f g = g r refl
 
 -- the request of a record is valid
-valid-request : (b : List ℕ) (r : Request) → request b ≡ some r → valid r ≡ true
+pub valid-request : (b : List ℕ) (r : Request) → request b ≡ some r → valid r ≡ true
 unfolding request isRecord
 valid-request b r e =
     by-test (isRecord b)
