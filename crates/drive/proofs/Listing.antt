@@ -1,14 +1,17 @@
 -- Listing goes on from event to event and from block to block, and a run from fresh with it. Assumes nothing.
 use Prim.Native.Nat.{ℕ, suc, _+_, _-_, _*_, _≤_, _<_, _%_, _^_}
 use native.Mathlib.Omega.{arith}
-use mathlib.Core.Path.{_≡_, refl, sym, _∙_, subst}
+use mathlib.Core.Path.{_≡_, refl, sym, ap, _∙_, subst}
 use mathlib.Core.Option.{Option, none, some}
 use mathlib.Core.List.{List, [], _∷_, _++_, append-assoc, append-nil}
 use lib.ListN.{length, take, drop, length-append}
+use Rattle.plain.specs.Steps.{refused}
 use Rattle.plain.specs.Site.{Call}
 use Rattle.store.specs.Calls.{State}
 use Rattle.promises.specs.Runs.{FromFresh}
-use Rattle.event.specs.Event.{eventSize, callOf, Listed}
+use Rattle.line.specs.Text.{lineOf}
+use Rattle.event.specs.Event.{eventSize, badEvent, callOf, Listed}
+use Rattle.event.proofs.Events.{no-event}
 use Rattle.input.specs.Pieces.{behind}
 use Rattle.input.proofs.Cutting.{no-piece, piece-at, none-at, short-at, pieces-append}
 use Rattle.drive.specs.Listing.{eventsOf, ListsOne, Lists, done, next, asked, callsOf, Ran}
@@ -109,3 +112,10 @@ goes-on x read y place text block z then more k l r m e =
       from-fresh = rw (s, calls-append events bs []) (fresh-on (callsOf events []) m (r .from-fresh));
       counts = e ∙ rw (r .counts, s, length-append events bs) (omega arith);
     }
+
+-- A SHORT EVENT is refused with 13, and touches nothing; only the last of an input can be short (`input` proofs Cutting, `whole-but-last`)
+pub short-is-refused : (x : State) (place : ℕ) (b : List ℕ) (y : State) (line : List ℕ) → length b < eventSize → Listed x place b y line
+    → (y ≡ x) × (line ≡ lineOf place (refused badEvent))
+short-is-refused x place b y line l h =
+    let w = h .happened .bad (no-event b (λ e. omega arith)) in
+    (w .0, h .says ∙ ap (lineOf place) (w .1))

@@ -1,9 +1,9 @@
 -- The pieces of an input: the first and those behind it, and that cutting goes on across the end of a whole block. Assumes nothing.
 use Prim.Native.Nat.{ℕ, zero, suc, _+_, _-_, _*_, _≤_, _<_}
 use native.Mathlib.Omega.{arith}
-use mathlib.Core.Path.{_≡_, refl, ap, _∙_}
+use mathlib.Core.Path.{_≡_, refl, sym, ap, _∙_}
 use mathlib.Core.List.{List, [], _∷_, _++_}
-use lib.ListN.{length, take, drop, length-drop, length-append, drop-of-length-le}
+use lib.ListN.{length, take, drop, length-take, length-drop, length-append, drop-of-length-le}
 use lib.Seq.{take-all, take-append-le, drop-append-le, drop-drop}
 use Rattle.input.specs.Pieces.{piecesUpTo, pieces}
 
@@ -54,6 +54,10 @@ module _ (n : ℕ) (p : 1 ≤ n) where
       let e : take (length t - at) (drop at t) ≡ drop at t = take-all (length t - at) (drop at t) (omega (arith, length-drop at t)) in
       one-piece (drop at t) (omega (arith, length-drop at t)) (omega (arith, length-drop at t)) ∙ rw e
 
+  some-bytes : (t p : List ℕ) (rest : List (List ℕ)) → pieces n t ≡ p ∷ rest → 1 ≤ length t
+  some-bytes [] p rest e = let z : length {A = List ℕ} [] ≡ length (p ∷ rest) = ap length (sym no-piece ∙ e) in absurd (omega arith)
+  some-bytes (x ∷ t) p rest e = omega arith
+
   -- ACROSS A BORDER: behind whole pieces cutting begins anew
   pub pieces-append : (k : ℕ) (a b : List ℕ) → length a ≡ n * k → pieces n (a ++ b) ≡ pieces n a ++ pieces n b
   pieces-append zero [] b h = rw no-piece
@@ -63,3 +67,19 @@ module _ (n : ℕ) (p : 1 ≤ n) where
       let m : length (drop n a) ≡ n * k = omega (arith, length-drop n a) in
       first-piece (a ++ b) (omega (arith, length-append a b))
       ∙ rw (take-append-le n a b l, drop-append-le n a b l, pieces-append k (drop n a) b m, first-piece a (omega arith))
+
+  -- ONLY THE LAST MAY BE SHORT
+  pub whole-but-last : (ps : List (List ℕ)) (t p q : List ℕ) (rest : List (List ℕ)) → pieces n t ≡ ps ++ (p ∷ q ∷ rest) → length p ≡ n
+  whole-but-last [] [] p q rest e = let z : length {A = List ℕ} [] ≡ length (p ∷ q ∷ rest) = ap length (sym no-piece ∙ e) in absurd (omega arith)
+  whole-but-last [] (x ∷ t) p q rest e =
+      let f : take n (x ∷ t) ∷ pieces n (drop n (x ∷ t)) ≡ p ∷ q ∷ rest = sym (first-piece (x ∷ t) (omega arith)) ∙ e in
+      let i : take n (x ∷ t) ≡ p = cc in
+      let j : pieces n (drop n (x ∷ t)) ≡ q ∷ rest = cc in
+      let l : 1 ≤ length (drop n (x ∷ t)) = some-bytes (drop n (x ∷ t)) q rest j in
+      omega (arith, length-drop n (x ∷ t), length-take n (x ∷ t), ap length i)
+  whole-but-last (o ∷ ps) [] p q rest e =
+      let z : length {A = List ℕ} [] ≡ length (o ∷ (ps ++ (p ∷ q ∷ rest))) = ap length (sym no-piece ∙ e) in absurd (omega arith)
+  whole-but-last (o ∷ ps) (x ∷ t) p q rest e =
+      let f : take n (x ∷ t) ∷ pieces n (drop n (x ∷ t)) ≡ o ∷ (ps ++ (p ∷ q ∷ rest)) = sym (first-piece (x ∷ t) (omega arith)) ∙ e in
+      let j : pieces n (drop n (x ∷ t)) ≡ ps ++ (p ∷ q ∷ rest) = cc in
+      whole-but-last ps (drop n (x ∷ t)) p q rest j
