@@ -1,9 +1,10 @@
 -- Document 01, "Both sides of each edge": the cases marked P, those of the mark and of the count of times put back, in one table under
 -- one statement about the definitions. Assumes nothing.
-use Prim.Native.Nat.{ℕ, _-_}
+use Prim.Native.Nat.{ℕ, zero, suc, _-_}
 use mathlib.Core.Path.{_≡_, refl}
 use mathlib.Core.List.{List, [], _∷_, _++_, map}
 use lib.ListN.{length, drop}
+use Rattle.plain.specs.Sizes.{slotCount, mostW}
 use Rattle.plain.specs.Ops.{Op, put, add, need, move, carry, opOk, valid}
 use Rattle.plain.specs.Record.{requestIn, isRecord, request}
 use Rattle.plain.specs.Steps.{Answer, queued, stepped, executed, committed, waiting, value, toDo, unconfirmed, offerStep, workStep, confirmStep}
@@ -21,6 +22,14 @@ works (o ∷ os) = work 0 ∷ works os
 
 run : ℕ → List Op → List Call
 run n os = req n os ∷ confirm n n ∷ works os
+
+-- a call for each of 1 to n
+each : (ℕ → Call) → ℕ → List Call
+each f zero = []
+each f (suc n) = each f n ++ (f (suc n) ∷ [])
+
+seven : List Op
+seven = add 0 1 ∷ add 0 1 ∷ add 0 1 ∷ add 0 1 ∷ add 0 1 ∷ add 0 1 ∷ add 0 1 ∷ []
 
 -- the last answers of a run of calls
 pub last : ℕ → List Answer → List Answer
@@ -89,9 +98,11 @@ table =
       calls = req 1 (put 0 1 ∷ []) ∷ req 2 (put 0 2 ∷ []) ∷ req 3 (put 0 3 ∷ []) ∷ look 1 ∷ work 0 ∷ confirm 2 1 ∷ look 1 ∷ look 2 ∷ work 0 ∷ confirm 3 2 ∷ confirm 1 3 ∷ look 1 ∷ work 0 ∷ work 0 ∷ [];
       end = unconfirmed 0 ∷ executed 1 ∷ waiting 2 1 1 ∷ unconfirmed 1 ∷ toDo 1 0 ∷ committed 2 1 0 1 0 ∷ waiting 3 1 1 ∷ waiting 1 2 0 ∷ toDo 2 2 ∷ committed 3 2 0 2 0 ∷ committed 1 3 0 0 2 ∷ [];
     }
+    -- the most that W can be: all slots hold requests of seven operations in one class, and the last is confirmed
+    ∷ record { calls = each (λ i. req i seven) slotCount ++ each (λ i. confirm i i) slotCount; end = waiting slotCount mostW 0 ∷ [] }
     ∷ []
 
 -- each case's last answers are those of the table
 pub cases : map (λ (k : Case). last (length (k .end)) (answers fresh (k .calls))) table ≡ map (λ (k : Case). k .end) table
-unfolding table works run req last top fourBytes opBytes opsBytes recordOf offerOf answers fresh call act refusal classOf isFree freeSlot numberQueued isKept sum standing offerStep workStep confirmStep requestIn isRecord request valid opOk carry
+unfolding table works run req each seven last top fourBytes opBytes opsBytes recordOf offerOf answers fresh call act refusal classOf isFree freeSlot numberQueued isKept sum standing offerStep workStep confirmStep requestIn isRecord request valid opOk carry
 cases = refl
