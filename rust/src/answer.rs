@@ -1,14 +1,11 @@
 //! What a call answers, and why it refuses.
 
-use crate::raw::{self, CELLS, NUMBERS, Numbers};
+use crate::raw::{self, NUMBERS, Numbers};
 use std::error::Error;
 use std::fmt;
 
-/// An answer not given yet: no call writes such numbers, so that one left out is noticed.
-pub const NO_ANSWER: Numbers = [u64::MAX; NUMBERS];
-
-/// The cells of an entry where none is read.
-pub const NO_CELLS: [u32; CELLS] = [0; CELLS];
+/// An answer not given yet.
+pub const NO_ANSWER: Numbers = [0; NUMBERS];
 
 /// What a call answers when it acts.
 #[derive(Clone, Copy, Debug, PartialEq, Eq)]
@@ -35,11 +32,6 @@ pub enum Answer {
     Unconfirmed { backs: u64 },
     /// The site is fresh.
     Started,
-    /// The query was begun, at a place from 1 to 8.
-    Begun { place: u32 },
-    /// An entry of the query at a place was read: the committed cells of a class after the
-    /// definitive numbers taken before the query began.
-    Entry { place: u32, class: u32, cells: [u32; CELLS] },
 }
 
 /// Why a call did not act: the table of document 01, under its numbers.
@@ -60,13 +52,10 @@ pub enum Refusal {
     NothingToDo = 11,
     NoSuchCell = 12,
     IdKept = 14,
-    EmptyMask = 17,
-    QueriesOpen = 18,
-    QueriesUsedUp = 24,
 }
 
 /// Every refusal and what it means.
-const MEANINGS: [(Refusal, &str); 16] = [
+const MEANINGS: [(Refusal, &str); 13] = [
     (Refusal::WrongCells, "a run of cells is not 1,024 long"),
     (Refusal::Unsound, "the site is not sound"),
     (Refusal::BadRecord, "the record is not 64 bytes or breaks a rule"),
@@ -80,9 +69,6 @@ const MEANINGS: [(Refusal, &str); 16] = [
     (Refusal::NothingToDo, "the queue is empty, or its head is executed"),
     (Refusal::NoSuchCell, "the cell is above 63"),
     (Refusal::IdKept, "the id is among the last 256 confirmed"),
-    (Refusal::EmptyMask, "the mask names no class"),
-    (Refusal::QueriesOpen, "8 queries are open"),
-    (Refusal::QueriesUsedUp, "4,294,967,295 queries were begun"),
 ];
 
 impl Refusal {
@@ -113,38 +99,32 @@ impl fmt::Display for Refusal {
 
 impl Error for Refusal {}
 
-/// The answer or the refusal that six numbers say, with the cells of an entry that was read; panics
-/// at numbers that no answer has.
-pub fn answered(numbers: &Numbers, cells: &[u32; CELLS]) -> Result<Answer, Refusal> {
-    Ok(match *numbers {
-        [raw::QUEUED, id, class, place, slot, 0] => Answer::Queued {
-            id: word(id),
-            class: word(class),
-            place: word(place),
-            slot: word(slot),
+/// The answer or the refusal that six numbers say; panics at numbers that no answer has.
+pub fn answered(numbers: &Numbers) -> Result<Answer, Refusal> {
+    let [what, first, second, third, fourth, fifth] = *numbers;
+    Ok(match what {
+        raw::QUEUED => Answer::Queued {
+            id: word(first),
+            class: word(second),
+            place: word(third),
+            slot: word(fourth),
         },
-        [raw::STEPPED, id, done, 0, 0, 0] => Answer::Stepped { id: word(id), done: word(done) },
-        [raw::EXECUTED, id, 0, 0, 0, 0] => Answer::Executed { id: word(id) },
-        [raw::COMMITTED, id, number, mark, slot, backs] => Answer::Committed {
-            id: word(id),
-            number: word(number),
-            mark: word(mark),
-            slot: word(slot),
-            backs,
+        raw::STEPPED => Answer::Stepped { id: word(first), done: word(second) },
+        raw::EXECUTED => Answer::Executed { id: word(first) },
+        raw::COMMITTED => Answer::Committed {
+            id: word(first),
+            number: word(second),
+            mark: word(third),
+            slot: word(fourth),
+            backs: fifth,
         },
-        [raw::WAITING, id, w, put_back, 0, 0] => {
-            Answer::Waiting { id: word(id), w: word(w), put_back: word(put_back) }
-        }
-        [raw::VALUE, cell, 0, 0, 0, 0] => Answer::Value(word(cell)),
-        [raw::TO_DO, w, backs, 0, 0, 0] => Answer::ToDo { w: word(w), backs },
-        [raw::UNCONFIRMED, backs, 0, 0, 0, 0] => Answer::Unconfirmed { backs },
-        [raw::STARTED, 0, 0, 0, 0, 0] => Answer::Started,
-        [raw::BEGUN, place, 0, 0, 0, 0] => Answer::Begun { place: word(place) },
-        [raw::ENTRY, place, class, 0, 0, 0] => {
-            Answer::Entry { place: word(place), class: word(class), cells: *cells }
-        }
-        [raw::REFUSED, number, 0, 0, 0, 0] => return Err(refusal(number)),
-        _ => panic!("{numbers:?} is no answer of a site"),
+        raw::WAITING => Answer::Waiting { id: word(first), w: word(second), put_back: word(third) },
+        raw::VALUE => Answer::Value(word(first)),
+        raw::TO_DO => Answer::ToDo { w: word(first), backs: second },
+        raw::UNCONFIRMED => Answer::Unconfirmed { backs: first },
+        raw::STARTED => Answer::Started,
+        raw::REFUSED => return Err(refusal(first)),
+        _ => panic!("an answer of the unknown kind {what}"),
     })
 }
 

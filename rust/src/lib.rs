@@ -29,6 +29,6 @@ pub mod raw;
 mod site;
 mod text;
 
-pub use answer::{Answer, Refusal, answered};
-pub use raw::{CELLS, LONGEST_TEXT, Op, Query, RECORD_BYTES, RUN_LENGTH, Site, Slot};
+pub use answer::{Answer, Refusal};
+pub use raw::{LONGEST_TEXT, Op, RECORD_BYTES, RUN_LENGTH, Site, Slot};
 pub use text::{TextRefusal, read_text, write_text};

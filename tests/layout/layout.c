@@ -22,20 +22,12 @@ STANDS(shpendorak_slot, mark, 69, 1);
 STANDS(shpendorak_slot, backs, 72, 8);
 _Static_assert(sizeof(shpendorak_slot) == 80, "a slot");
 
-STANDS(shpendorak_open_query, classes, 0, 2);
-STANDS(shpendorak_open_query, begun, 4, 4);
-_Static_assert(sizeof(shpendorak_open_query) == 8, "a query");
-
 STANDS(shpendorak_site, slots, 0, 10240);
-STANDS(shpendorak_site, queue, 10240, 2176);
-STANDS(shpendorak_site, lens, 12416, 16);
-STANDS(shpendorak_site, low, 12432, 8);
-STANDS(shpendorak_site, high, 12440, 8);
-STANDS(shpendorak_site, confirmations, 12448, 4);
-STANDS(shpendorak_site, commits, 12452, 4);
-STANDS(shpendorak_site, kept, 12456, 1024);
-STANDS(shpendorak_site, queries, 13480, 64);
-STANDS(shpendorak_site, begun, 13544, 4);
-_Static_assert(sizeof(shpendorak_site) == 13552, "a site");
-_Static_assert(SHPENDORAK_CLASS_PLACES == SHPENDORAK_SLOTS + SHPENDORAK_QUERIES, "a queue has room for every slot and query");
-_Static_assert(SHPENDORAK_PLACES == SHPENDORAK_CLASSES * SHPENDORAK_CLASS_PLACES, "so has each class");
+STANDS(shpendorak_site, queue, 10240, 2048);
+STANDS(shpendorak_site, lens, 12288, 16);
+STANDS(shpendorak_site, low, 12304, 8);
+STANDS(shpendorak_site, high, 12312, 8);
+STANDS(shpendorak_site, confirmations, 12320, 4);
+STANDS(shpendorak_site, commits, 12324, 4);
+STANDS(shpendorak_site, kept, 12328, 1024);
+_Static_assert(sizeof(shpendorak_site) == 13352, "a site");

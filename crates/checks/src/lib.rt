@@ -65,19 +65,6 @@ pub fn gather_owners(slots: [Slot; SLOTS], top: u64) -> Owners
     o
 }
 
-// The numbers of the slots.
-pub fn gather_numbers(slots: [Slot; SLOTS]) -> [u32; SLOTS]
-    ensures { λ r. ⌜ Staged slots r ⌝ }
-{
-    let mut numbers = [0; SLOTS];
-    let mut slot = 0;
-    while slot < SLOTS {
-        numbers[slot] = slots[slot].number;
-        slot += 1;
-    }
-    numbers
-}
-
 // The numbers of the slots; and of what queue places name the lines, done operations and marks.
 pub struct Stages {
     pub numbers: [u32; SLOTS],
@@ -307,13 +294,16 @@ fn in_order<'a>(
 fn free_zero(table: [Query; QUERIES]) -> bool
     ensures { λ r. ⌜ Decides r (FreeIn table) ⌝ }
 {
-    let mut zero = true;
     let mut p = 0;
     while p < QUERIES {
-        zero = zero & ((table[p].classes != 0) | (table[p].begun == 0));
+        if table[p].classes == 0 {
+            if table[p].begun != 0 {
+                return false;
+            }
+        }
         p += 1;
     }
-    zero
+    true
 }
 
 // How many slots hold a number.
@@ -351,9 +341,6 @@ fn agree<'a>(
     requires { ⌜ (length (now queue) ≡ placeCount) × (length table ≡ queryCount) × Classed (nth (now classes)) × Unnumbered (nth (now ids)) (nth (now numbers)) ⌝ }
     ensures { λ r. ⌜ Decides r (LaidOut (nth (now (ids .entry))) (nth (now (classes .entry))) (nth (now (numbers .entry))) (nth (now (lines .entry))) (nth (now (dones .entry))) (nth (now (marks .entry))) (now (queue .entry)) (now (lens .entry)) table low high top commits) ⌝ }
 {
-    if !free_zero(table) {
-        return false;
-    }
     if !lens_short(lens) {
         return false;
     }
@@ -370,6 +357,9 @@ fn agree<'a>(
         return false;
     }
     if !in_order(lines, dones, marks, queue, lens, top) {
+        return false;
+    }
+    if !free_zero(table) {
         return false;
     }
     let n = numbered(numbers);

@@ -2,7 +2,7 @@
 ghost use Rattle.site.specs.Held.{stateOf, answerOf};
 ghost use Prim.Native.Nat.{_≤_};
 ghost use Rattle.line.specs.Text.{written};
-ghost use Rattle.event.specs.Event.{readBy, Happened, Listed};
+ghost use Rattle.event.specs.Event.{Happened, Listed};
 use line::Line;
 use line::line_of;
 use site::Answer;
@@ -38,7 +38,7 @@ const BAD_EVENT: u8 = 13;
 
 // Makes the call that an event asks for and answers what the call does; or refuses with 13, and touches nothing.
 pub fn happen(site: Site, committed: &mut [u32], working: &mut [u32], bytes: &[u8]) -> Reply
-    ensures { λ r. ⌜ Happened (stateOf site (now (committed .entry)) (now (working .entry))) (now (bytes .entry)) (stateOf (r .site) (now (committed .exit)) (now (working .exit))) (answerOf (r .answer) (readBy (now (bytes .entry)) (now (committed .exit)))) ⌝ }
+    ensures { λ r. ⌜ Happened (stateOf site (now (committed .entry)) (now (working .entry))) (now (bytes .entry)) (stateOf (r .site) (now (committed .exit)) (now (working .exit))) (answerOf (r .answer)) ⌝ }
 {
     if bytes.len() != EVENT {
         return Reply {
@@ -48,17 +48,17 @@ pub fn happen(site: Site, committed: &mut [u32], working: &mut [u32], bytes: &[u
     }
     let kind = bytes[KIND_AT];
     match kind {
-        OFFER => promised::offer(site, &*committed, &*working, &bytes[RECORD_AT..]),
+        OFFER => site.offer(&*committed, &*working, &bytes[RECORD_AT..]),
         CONFIRM => {
             let id = word_at(bytes, RECORD_AT);
             let number = word_at(bytes, NUMBER_AT);
-            promised::confirm(site, committed, working, id as u64, number as u64)
+            site.confirm(committed, working, id as u64, number as u64)
         }
-        WORK => promised::work(site, committed, working, bytes[CLASS_AT] as u64),
+        WORK => site.work(committed, working, bytes[CLASS_AT] as u64),
         READ => {
             let class = bytes[CLASS_AT] as u64;
             let cell = bytes[CELL_AT] as u64;
-            let answer = promised::read(site, &*committed, &*working, class, cell);
+            let answer = site.read(&*committed, &*working, class, cell);
             Reply {
                 site: site,
                 answer: answer,

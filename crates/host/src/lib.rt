@@ -1,13 +1,9 @@
 // The calls for hosts in C and Rust: a site by value in and out, cells and record as slices, the answer as six numbers in a lent array.
 ghost use mathlib.Core.Path.{_≡_};
-ghost use mathlib.Core.List.{[]};
-ghost use Rattle.plain.specs.Site.{offer, confirm, work, read, look, query};
-ghost use Rattle.store.specs.Meaning.{cellsOf};
+ghost use Rattle.plain.specs.Site.{offer, confirm, work, read, look};
 ghost use Rattle.text.specs.Calls as T;
 ghost use Rattle.site.specs.Held.{store, stateOf, answerOf};
-ghost use Rattle.host.specs.Told.{told, shown, toldFresh, toldText, Told, ToldWork, ToldFresh, ToldText, Readable};
-use cells::CELLS;
-use cells::copy_cells;
+ghost use Rattle.host.specs.Told.{told, toldFresh, toldText, Told, ToldFresh, ToldText};
 use site::Answer;
 use site::Site;
 use text::Outcome;
@@ -38,10 +34,6 @@ const STARTED: u64 = 9;
 
 const WRITTEN: u64 = 10;
 
-const BEGUN: u64 = 11;
-
-const ENTRY: u64 = 12;
-
 // The refusals of the text form.
 const NO_RECORD: u64 = 3;
 
@@ -49,69 +41,45 @@ const BAD_TEXT: u64 = 15;
 
 const SHORT_BUFFER: u64 = 16;
 
-// Writes the six numbers of an answer; of an entry also the class that was asked for.
-fn tell(answer: Answer, class: u64, out: &mut [u64; NUMBERS])
-    ensures { λ _. ⌜ now (out .exit) ≡ told class (answerOf answer []) ⌝ }
+// An answer as its six numbers.
+fn numbers_of(answer: Answer) -> [u64; NUMBERS]
+    ensures { λ r. ⌜ r ≡ told (answerOf answer) ⌝ }
 {
     match answer {
-        Answer::Refused(n) => {
-            *out = [REFUSED, n as u64, 0, 0, 0, 0];
-        }
+        Answer::Refused(n) => [REFUSED, n as u64, 0, 0, 0, 0],
         Answer::Queued {
             id,
             class,
             place,
             slot,
-        } => {
-            *out = [
-                QUEUED,
-                id as u64,
-                class as u64,
-                place as u64,
-                slot as u64,
-                0,
-            ];
-        }
-        Answer::Stepped { id, done } => {
-            *out = [STEPPED, id as u64, done as u64, 0, 0, 0];
-        }
-        Answer::Executed { id } => {
-            *out = [EXECUTED, id as u64, 0, 0, 0, 0];
-        }
+        } => [
+            QUEUED,
+            id as u64,
+            class as u64,
+            place as u64,
+            slot as u64,
+            0,
+        ],
+        Answer::Stepped { id, done } => [STEPPED, id as u64, done as u64, 0, 0, 0],
+        Answer::Executed { id } => [EXECUTED, id as u64, 0, 0, 0, 0],
         Answer::Committed {
             id,
             number,
             mark,
             slot,
             backs,
-        } => {
-            *out = [
-                COMMITTED,
-                id as u64,
-                number as u64,
-                mark as u64,
-                slot as u64,
-                backs,
-            ];
-        }
-        Answer::Waiting { id, w, back } => {
-            *out = [WAITING, id as u64, w as u64, back as u64, 0, 0];
-        }
-        Answer::Value(n) => {
-            *out = [VALUE, n as u64, 0, 0, 0, 0];
-        }
-        Answer::ToDo { w, backs } => {
-            *out = [TO_DO, w as u64, backs, 0, 0, 0];
-        }
-        Answer::Unconfirmed { backs } => {
-            *out = [UNCONFIRMED, backs, 0, 0, 0, 0];
-        }
-        Answer::Begun { place } => {
-            *out = [BEGUN, place as u64, 0, 0, 0, 0];
-        }
-        Answer::Entry { place } => {
-            *out = [ENTRY, place as u64, class, 0, 0, 0];
-        }
+        } => [
+            COMMITTED,
+            id as u64,
+            number as u64,
+            mark as u64,
+            slot as u64,
+            backs,
+        ],
+        Answer::Waiting { id, w, back } => [WAITING, id as u64, w as u64, back as u64, 0, 0],
+        Answer::Value(n) => [VALUE, n as u64, 0, 0, 0, 0],
+        Answer::ToDo { w, backs } => [TO_DO, w as u64, backs, 0, 0, 0],
+        Answer::Unconfirmed { backs } => [UNCONFIRMED, backs, 0, 0, 0, 0],
     }
 }
 
@@ -146,13 +114,13 @@ pub extern "C" fn shpendorak_fresh(
 ) -> Site
     ensures { λ r. ⌜ ToldFresh (now (committed .entry)) (now (working .entry)) (store r) (now (committed .exit)) (now (working .exit)) (now (answer .exit)) ⌝ }
 {
-    let started = promised::fresh(committed, working);
+    let started = Site::fresh(committed, working);
     let site = started.site;
     *answer = numbers_of_fresh(started.refused);
     site
 }
 
-// Queues the request of a record; or refuses with 1, 2, 3, 4, 14 or 5.
+// Queues the request of a record; or refuses with 1, 2, 3, 4 or 5.
 #[no_mangle]
 pub extern "C" fn shpendorak_offer(
     site: Site,
@@ -163,10 +131,10 @@ pub extern "C" fn shpendorak_offer(
 ) -> Site
     ensures { λ r. ⌜ Told (stateOf site (now (committed .entry)) (now (working .entry))) (offer (now (booking .entry))) (stateOf r (now (committed .entry)) (now (working .entry))) (now (answer .exit)) ⌝ }
 {
-    let reply = promised::offer(site, committed, working, booking);
-    let given = reply.answer;
-    tell(given, 0, answer);
+    let reply = site.offer(committed, working, booking);
     let next = reply.site;
+    let given = reply.answer;
+    *answer = numbers_of(given);
     next
 }
 
@@ -182,63 +150,28 @@ pub extern "C" fn shpendorak_confirm(
 ) -> Site
     ensures { λ r. ⌜ Told (stateOf site (now (committed .entry)) (now (working .entry))) (confirm id number) (stateOf r (now (committed .exit)) (now (working .exit))) (now (answer .exit)) ⌝ }
 {
-    let reply = promised::confirm(site, committed, working, id, number);
-    let given = reply.answer;
-    tell(given, 0, answer);
+    let reply = site.confirm(committed, working, id, number);
     let next = reply.site;
+    let given = reply.answer;
+    *answer = numbers_of(given);
     next
 }
 
-// Where an entry was read, the committed cells of its class are put into an array.
-fn show(answer: Answer, committed: &[u32], class: u64, entry: &mut [u32; CELLS])
-    requires { ⌜ Readable answer (now committed) class ⌝ }
-    ensures { λ _. ⌜ now (entry .exit) ≡ shown (answerOf answer (cellsOf (now (committed .entry)) class)) (now (entry .entry)) ⌝ }
-{
-    match answer {
-        Answer::Entry { .. } => {
-            let a = CELLS * (class as usize);
-            let b = a + CELLS;
-            copy_cells(entry, &committed[a..b]);
-        }
-        _ => {}
-    }
-}
-
-// The head of a class does its next operation, or an entry of a query there is read, and its cells put into `entry`; or refuses with 1, 2, 10 or 11.
+// The head of a class does its next operation; or refuses with 1, 2, 10 or 11.
 #[no_mangle]
 pub extern "C" fn shpendorak_work(
     site: Site,
     committed: &mut [u32],
     working: &mut [u32],
     class: u64,
-    entry: &mut [u32; CELLS],
     answer: &mut [u64; NUMBERS],
 ) -> Site
-    ensures { λ r. ⌜ ToldWork (stateOf site (now (committed .entry)) (now (working .entry))) class (stateOf r (now (committed .exit)) (now (working .exit))) (now (entry .entry)) (now (entry .exit)) (now (answer .exit)) ⌝ }
+    ensures { λ r. ⌜ Told (stateOf site (now (committed .entry)) (now (working .entry))) (work class) (stateOf r (now (committed .exit)) (now (working .exit))) (now (answer .exit)) ⌝ }
 {
-    let reply = promised::work(site, committed, working, class);
-    let given = reply.answer;
-    show(given, &*committed, class, entry);
-    tell(given, class, answer);
+    let reply = site.work(committed, working, class);
     let next = reply.site;
-    next
-}
-
-// Begins a query over the classes of a mask, bit c for class c; or refuses with 1, 2, 17, 18 or 24.
-#[no_mangle]
-pub extern "C" fn shpendorak_query(
-    site: Site,
-    committed: &[u32],
-    working: &mut [u32],
-    mask: u16,
-    answer: &mut [u64; NUMBERS],
-) -> Site
-    ensures { λ r. ⌜ Told (stateOf site (now (committed .entry)) (now (working .entry))) (query mask) (stateOf r (now (committed .entry)) (now (working .exit))) (now (answer .exit)) ⌝ }
-{
-    let reply = promised::query(site, committed, working, mask);
     let given = reply.answer;
-    tell(given, 0, answer);
-    let next = reply.site;
+    *answer = numbers_of(given);
     next
 }
 
@@ -254,19 +187,8 @@ pub extern "C" fn shpendorak_read(
 ) -> Site
     ensures { λ r. ⌜ Told (stateOf site (now (committed .entry)) (now (working .entry))) (read class cell) (stateOf r (now (committed .entry)) (now (working .entry))) (now (answer .exit)) ⌝ }
 {
-    let given = promised::read(site, committed, working, class, cell);
-    // What read answers is told here: so the answer takes no stack.
-    match given {
-        Answer::Refused(n) => {
-            *answer = [REFUSED, n as u64, 0, 0, 0, 0];
-        }
-        Answer::Value(n) => {
-            *answer = [VALUE, n as u64, 0, 0, 0, 0];
-        }
-        _ => {
-            tell(given, 0, answer);
-        }
-    }
+    let given = site.read(committed, working, class, cell);
+    *answer = numbers_of(given);
     site
 }
 
@@ -281,8 +203,8 @@ pub extern "C" fn shpendorak_look(
 ) -> Site
     ensures { λ r. ⌜ Told (stateOf site (now (committed .entry)) (now (working .entry))) (look id) (stateOf r (now (committed .entry)) (now (working .entry))) (now (answer .exit)) ⌝ }
 {
-    let given = promised::look(site, committed, working, id);
-    tell(given, 0, answer);
+    let given = site.look(committed, working, id);
+    *answer = numbers_of(given);
     site
 }
 

@@ -1,3 +1,2 @@
 -- a few lines by computing
 pub mod Examples
-pub mod Words

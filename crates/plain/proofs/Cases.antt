@@ -1,10 +1,9 @@
 -- Document 01, "Both sides of each edge": the cases marked P, those of the mark, of the count of times put back and of queries, in one table under
 -- one statement about the definitions. Assumes nothing.
-use Prim.Native.Nat.{ℕ, zero, suc, _-_}
+use Prim.Native.Nat.{ℕ, _-_}
 use mathlib.Core.Path.{_≡_, refl}
 use mathlib.Core.List.{List, [], _∷_, _++_, map}
 use lib.ListN.{length, drop, set, replicate}
-use Rattle.plain.specs.Sizes.{slotCount, mostW}
 use Rattle.plain.specs.Ops.{Op, put, add, need, move, carry, opOk, valid}
 use Rattle.plain.specs.Record.{requestIn, isRecord, request}
 use Rattle.plain.specs.Steps.{Answer, refused, queued, stepped, executed, committed, waiting, value, toDo, unconfirmed, begun, entry}
@@ -23,14 +22,6 @@ works (o ∷ os) = work 0 ∷ works os
 
 run : ℕ → List Op → List Call
 run n os = req n os ∷ confirm n n ∷ works os
-
--- a call for each of 1 to n
-each : (ℕ → Call) → ℕ → List Call
-each f zero = []
-each f (suc n) = each f n ++ (f (suc n) ∷ [])
-
-seven : List Op
-seven = add 0 1 ∷ add 0 1 ∷ add 0 1 ∷ add 0 1 ∷ add 0 1 ∷ add 0 1 ∷ add 0 1 ∷ []
 
 -- the last answers of a run of calls
 pub last : ℕ → List Answer → List Answer
@@ -117,14 +108,9 @@ table =
       end = begun 1 ∷ entry 1 zeros ∷ begun 2 ∷ entry 1 zeros ∷ begun 1 ∷ [];
     }
     ∷ record { calls = replicate 9 (query 32768) ++ (work 15 ∷ query 32768 ∷ []); end = begun 7 ∷ begun 8 ∷ refused 18 ∷ entry 1 zeros ∷ begun 1 ∷ [] }
-    -- the most that W can be: all slots hold requests of seven operations in one class, all but the last are confirmed, and 8 queries stand before it
-    ∷ record {
-      calls = each (λ i. req i seven) slotCount ++ each (λ i. confirm i i) 127 ++ replicate 8 (query 1) ++ (confirm slotCount slotCount ∷ []);
-      end = waiting slotCount mostW 0 ∷ [];
-    }
     ∷ []
 
 -- each case's last answers are those of the table
 pub cases : map (λ (k : Case). last (length (k .end)) (answers fresh (k .calls))) table ≡ map (λ (k : Case). k .end) table
-unfolding table works run req each seven last top fourBytes opBytes opsBytes recordOf offerOf answers fresh call act refusal classOf isFree freeSlot numberQueued isKept sum standing bits named firstNamed isOpen freePlace offerStep workStep confirmStep queryStep requestIn isRecord request valid opOk carry
+unfolding table works run req last top fourBytes opBytes opsBytes recordOf offerOf answers fresh call act refusal classOf isFree freeSlot numberQueued isKept sum standing bits named firstNamed isOpen freePlace offerStep workStep confirmStep queryStep requestIn isRecord request valid opOk carry
 cases = refl

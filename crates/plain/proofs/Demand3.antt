@@ -29,7 +29,7 @@ ends-commits : (i n : ℕ) (cells : List ℕ) (a : Answer) → Ends (idIs i) n c
 ends-commits i n cells a e = go (e .it) (e .passes) (e .at) (e .says)
   where
     go : (x : Item) → idIs i x ≡ true → line x ≡ n → a ≡ ending x (runAll cells (asks x)) → Commits a i n
-    go (booking y) h at says = record { mark = y .mark; slot = y .slot; backs = y .backs; says = says ∙ rw (eqb-true (idOf y) i h, at) }
+    go (booking y) h at says = record { declined = y .mark; slot = y .slot; backs = y .backs; says = says ∙ rw (eqb-true (idOf y) i h, at) }
     go (reading p b) h at says = no _ h refl
 
 others-not : (i n : ℕ) (a : Answer) → Others (idIs i) a → Commits a i n → ⊥
@@ -74,7 +74,7 @@ Started i n backs cells d = Commits (d .answer) i n ⊎ ((W : ℕ) × (back : �
 
 start : (c top i n : ℕ) (k : Class) (d : Did) → SoundClass c top k → SoundClass c n (d .class) → confirmedAt (entryOf i (k .queue)) ≡ false
     → Confirms i n k d → Started i n (backsAt (entryOf i (k .queue))) (runAll (k .committed) (asked (confirmedPart (k .queue)))) d
-start c top i n k d s s′ f (at-once x b sl bk en p p′ r a t) = inl (record { mark = b; slot = sl; backs = bk; says = a })
+start c top i n k d s s′ f (at-once x b sl bk en p p′ r a t) = inl (record { declined = b; slot = sl; backs = bk; says = a })
 start c top i n k d s s′ f (later x y back en m e p z a t) =
     let no = not-there (idIs i) 0 top (k .queue) (s .order) f in
     let r = part-first (idIs i) 0 n (d .class .queue) (confirmedPart (k .queue)) y [] (s′ .order) p no (m .id) in

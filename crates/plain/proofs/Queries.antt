@@ -1,36 +1,35 @@
 -- The query's promise: in each class that it names its entry is read by exactly the W-th accepted work call, and gives the cells after the definitive
 -- numbers taken before the query began; and a request confirmed before it keeps its W. Assumes nothing.
-use Prim.Native.Nat.{ℕ, suc, _+_, _-_, _<_}
+use Prim.Native.Nat.{ℕ, _+_, _-_, _<_}
 use native.Mathlib.Omega.{arith}
 use mathlib.Core.Path.{_≡_, refl, sym, ap, _∙_}
 use mathlib.Core.Logic.{inl, inr}
-use mathlib.Core.Bool.{Bool, true, false, cond, not}
+use mathlib.Core.Bool.{Bool, true, false, cond}
 use mathlib.Core.Option.{none, some}
 use mathlib.Core.List.{List, [], _∷_, _++_, append-nil, append-assoc}
 use lib.ListN.{take}
 use lib.Seq.{take-append-seam}
-use borrow.Author.Tests.{eqb-true, eqb-false, eq-eqb, lt-ltb, le-ltb, not-false}
+use borrow.Author.Tests.{eqb-true, eqb-false, eq-eqb, lt-ltb}
 use Rattle.plain.specs.Ops.{Request, runAll}
 use Rattle.plain.specs.Queue.{Item, booking, reading, idIs, placeIs, isConfirmed, line, left, asks, asked, any, count, firstOf, upTo}
-use Rattle.plain.specs.Queue.{has, entryOf, owed, confirmedPart, costs, beforeWaiting}
-use Rattle.plain.specs.Steps.{Class, Did, Answer, toDo, entry, begun, ending, backed, offerStep, queryOn, queryStep}
-use Rattle.plain.specs.Site.{Site, Call, offer, work, confirm, read, look, query, call, act, accepts, refusal, standing, classOf, confirmedAt, entryAt}
-use Rattle.plain.specs.Site.{Outcome, named, isOpen, freePlace, lookAnswer}
+use Rattle.plain.specs.Queue.{has, entryOf, owed, confirmedPart, beforeWaiting}
+use Rattle.plain.specs.Steps.{Class, Answer, toDo, entry, begun, ending, backed, queryOn, queryStep}
+use Rattle.plain.specs.Site.{Site, Call, look, query, call, act, accepts, refusal, standing, classOf, confirmedAt, entryAt}
+use Rattle.plain.specs.Site.{Outcome, named, freePlace, lookAnswer}
 use Rattle.plain.specs.Sound.{All, Waiting, InOrder, SoundClass, SoundSite}
 use Rattle.plain.specs.History.{after, afterFrom, worksFrom, confirmations, confirmedBy}
-use Rattle.plain.specs.Demands.{Reads, LowestFree, ahead, cellsAfter, QueryPromise}
+use Rattle.plain.specs.Demands.{Reads, QueryPromise}
 use Rattle.plain.proofs.Tests.{by-test, no, or-left, or-right}
-use Rattle.plain.proofs.Sums.{sum-term, lowest-below}
+use Rattle.plain.proofs.Sums.{sum-term}
 use Rattle.plain.proofs.Items.{follows-confirmed, waiting-unconfirmed}
 use Rattle.plain.proofs.Queues.{count-some, first-before, waits-all, waits-head}
 use Rattle.plain.proofs.Table.{refused-same}
 use Rattle.plain.proofs.Steps.{readOf}
 use Rattle.plain.proofs.Sites.{query-accepted, named-below, class-is, look-accepted}
-use Rattle.plain.proofs.Confirming.{Confirms, at-once, later}
-use Rattle.plain.proofs.Accepted.{place-lasts, confirm-both, query-both}
+use Rattle.plain.proofs.Accepted.{place-lasts, query-both}
 use Rattle.plain.proofs.Kept.{call-sound}
 use Rattle.plain.proofs.Demand2.{after-sound, in-line, cells-are-the-serial-run, run-append}
-use Rattle.plain.proofs.Due.{Due, Ends, Others, part-first}
+use Rattle.plain.proofs.Due.{costs, Due, Ends, Others, part-first}
 use Rattle.plain.proofs.Turn.{Turn, turn, from-sound}
 use Rattle.plain.proofs.Logs.{counted}
 
@@ -78,7 +77,7 @@ module _ (s : Site) (w : SoundSite s) (m : ℕ) (a : accepts s (query m) ≡ tru
       )))
       (λ f. f)
 
-  begun-due : Due (call s (query m) .site .class c) (placeIs p) (s .confirmations) 0 (runAll (s .class c .committed) (asked (confirmedPart q))) (suc (ahead s c))
+  begun-due : Due (call s (query m) .site .class c) (placeIs p) (s .confirmations) 0 (runAll (s .class c .committed) (asked (confirmedPart q))) (costs (confirmedPart q) + 1)
   unfolding call act
   begun-due =
       let j = query-both s w m c a (named-below m c t) in
@@ -92,7 +91,7 @@ module _ (s : Site) (w : SoundSite s) (m : ℕ) (a : accepts s (query m) ≡ tru
         at = refl;
         back-is = refl;
         finds = ap (λ (b : List ℕ). runAll b (asked (confirmedPart q))) (j .cells);
-        w-is = omega arith;
+        w-is = refl;
       })
 
 -- while its turn has not come it stands there
@@ -115,26 +114,15 @@ reads-turn s w c p n cells W x l t = record {
     is (booking y) h e = no _ h refl
     is (reading q b) h e = rw (eqb-true q p h, e)
 
--- the place that it is given
-lowest-free-is : (s : Site) (m : ℕ) → accepts s (query m) ≡ true → LowestFree s (freePlace s)
-unfolding freePlace isOpen
-lowest-free-is s m a =
-    let b = query-accepted s m a in
-    record {
-      from-1 = b .placed .from-1;
-      to-8 = b .placed .to-8;
-      free = le-ltb 0 (standing (placeIs (freePlace s)) s) (omega (arith, b .unused));
-      lowest = λ p l k. not-false (isOpen s p) (lowest-below (λ p. not (isOpen s p)) 1 8 p (omega arith) k);
-    }
-
 -- THE QUERY'S PROMISE
 pub query-promise : (h : List Call) (m : ℕ) → accepts (after h) (query m) ≡ true → QueryPromise h m (call (after h) (query m))
 query-promise h m a = record {
   place = freePlace s;
   says = answered s m a;
-  lowest-free = lowest-free-is s m a;
-  later = λ c t g x. unfold cellsAfter in (rw (in-line h c, run-append, ← cells-are-the-serial-run h c) (reads-turn (afterFrom s′ g) (from-sound s′ w′ g) c (freePlace s) (s .confirmations) _ (suc (ahead s c)) (worksFrom s′ c g) (named-below m c t)
-      (turn (placeIs (freePlace s)) (place-lasts (freePlace s)) (s .confirmations) 0 _ s′ w′ c (suc (ahead s c)) (named-below m c t) (begun-due s w m a c t) g x)));
+  W = away;
+  at-least-one = λ c. omega arith;
+  later = λ c t g x. rw (in-line h c, run-append, ← cells-are-the-serial-run h c) (reads-turn (afterFrom s′ g) (from-sound s′ w′ g) c (freePlace s) (s .confirmations) _ (away c) (worksFrom s′ c g) (named-below m c t)
+      (turn (placeIs (freePlace s)) (place-lasts (freePlace s)) (s .confirmations) 0 _ s′ w′ c (away c) (named-below m c t) (begun-due s w m a c t) g x));
 }
   where
     s : Site
@@ -148,6 +136,9 @@ query-promise h m a = record {
 
     w′ : SoundSite s′
     w′ = call-sound s (query m) w
+
+    away : ℕ → ℕ
+    away c = costs (confirmedPart (s .class c .queue)) + 1
 
     answered : (s : Site) (m : ℕ) → accepts s (query m) ≡ true → call s (query m) .answer ≡ begun (freePlace s)
     answered s m a = unfold call act in (rw a)
@@ -258,20 +249,3 @@ keeps-its-w s w m i v b e = by-test (accepts s (query m)) taken untaken
         (λ t. let q = query-same c (s .confirmations) (freePlace s) (s .confirmations) i (s .class c) (w .each c l) h in
         alike (queryStep (freePlace s) (s .confirmations) (s .class c)) (class-after s m c a ∙ rw t) (q .0) (q .1))
         (λ f. alike (s .class c) (class-after s m c a ∙ rw f) refl refl)
-
--- NO OTHER CALL reads an entry
-pub unread : (s : Site) → SoundSite s → (k : Call) → ((c : ℕ) → k ≡ work c → ⊥) → readOf (call s k .answer) ≡ none
-unfolding call act
-unread s w k n = by-test (accepts s k) (λ t. rw t (go k n t)) (λ f. rw f)
-  where
-    go : (k : Call) → ((c : ℕ) → k ≡ work c → ⊥) → accepts s k ≡ true → readOf (act s k .answer) ≡ none
-    go (offer b) n t = unfold offerStep in refl
-    go (work c) n t = absurd (n c refl)
-    go (confirm i m) n t = confirms (confirm-both s w i m t .1)
-      where
-        confirms : {k : Class} {d : Did} → Confirms i m k d → readOf (d .answer) ≡ none
-        confirms (at-once x b sl bk en p p′ r a u) = ap readOf a
-        confirms (later x y back en m e p z a u) = ap readOf a
-    go (read c j) n t = refl
-    go (look i) n t = by-test (confirmedAt (entryAt s i)) (λ u. rw u) (λ f. rw f)
-    go (query m) n t = refl

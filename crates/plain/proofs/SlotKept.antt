@@ -108,15 +108,15 @@ module _ (s : Site) (w : SoundSite s) (r : Request) (j : ℕ) (u : Keeps s r j) 
     number = n;
     confirmed = m;
     both = b;
-    mark = o .mark;
+    declined = o .declined;
     says = rw is (o .says ∙ named);
     free = rw is (eq-eqb _ 0 gone);
   }
     where
-      named : committed (idOf x) n (o .mark) (x .slot) (x .backs) ≡ committed (r .id) n (o .mark) j (x .backs)
+      named : committed (idOf x) n (o .declined) (x .slot) (x .backs) ≡ committed (r .id) n (o .declined) j (x .backs)
       named =
-          ap (λ (q : Request). committed (q .id) n (o .mark) (x .slot) (x .backs)) (u .request)
-          ∙ ap (λ (l : ℕ). committed (r .id) n (o .mark) l (x .backs)) (u .slot)
+          ap (λ (q : Request). committed (q .id) n (o .declined) (x .slot) (x .backs)) (u .request)
+          ∙ ap (λ (l : ℕ). committed (r .id) n (o .declined) l (x .backs)) (u .slot)
 
       shorter : count (slotIs j) (s .class c .queue) ≡ 1 + count (slotIs j) (d .class .queue)
       shorter = ap (count (slotIs j)) (o .behind) ∙ rw (eq-eqb (x .slot) j (u .slot))

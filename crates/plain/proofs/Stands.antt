@@ -25,8 +25,8 @@ Stands i x q = (y : Entry) × (entryOf i q ≡ some (booking y)) × (y .request 
 -- the head x is committed under n and leaves the queue
 pub record Off (k : Class) (d : Did) (x : Entry) (n : ℕ) : Type 0 where
   pub behind : k .queue ≡ booking x ∷ d .class .queue
-  pub mark : ℕ
-  pub says : d .answer ≡ committed (idOf x) n mark (x .slot) (x .backs)
+  pub declined : ℕ
+  pub says : d .answer ≡ committed (idOf x) n declined (x .slot) (x .backs)
 
 -- WORK leaves it there, unless it does the last operation of the confirmed head
 abbrev pub AfterWork : ℕ → Class → Did → Entry → Type 0
@@ -54,7 +54,7 @@ work-stands i k x z en = go (k .queue) refl z en
         head y =
             by-test (isExecuted (booking e′))
             (λ v. by-test (isConfirmed (booking e))
-            (λ t. rw (v, t) (inr (record { behind = is; mark = e′ .mark; says = refl }, ltb-true 0 (e .number) t, omega (arith, leb-true, leb-false))))
+            (λ t. rw (v, t) (inr (record { behind = is; declined = e′ .mark; says = refl }, ltb-true 0 (e .number) t, omega (arith, leb-true, leb-false))))
             (λ f. rw (v, f) (inl (e′, rw y, refl, refl))))
             (λ v. rw v (inl (e′, rw y, refl, refl)))
 
@@ -121,7 +121,7 @@ confirm-stands i m n k x o en = go (k .queue) refl o en
         (λ y. by-test (isExecuted (booking h))
         (λ v. rw (y, v) (by-test (idIs i (booking h))
         (λ t. let p : h ≡ x = cc (rw t at en) in
-        inr (record { behind = rw (← p) is; mark = h .mark; says = rw p }, sym (eqb-true _ m y) ∙ eqb-true _ i t, rw (← p) v))
+        inr (record { behind = rw (← p) is; declined = h .mark; says = rw p }, sym (eqb-true _ m y) ∙ eqb-true _ i t, rw (← p) v))
         (λ f. inl (x, rw f at en, refl, refl))))
         (λ v. rw (y, v) (inl (moved-stands i x m n (booking h ∷ rest) o (x, en, refl, refl)))))
         (λ y. rw y (inl (moved-stands i x m n (backed (booking h) ∷ rest) o′ (backed-stands i x h rest (x, en, refl, refl)))))

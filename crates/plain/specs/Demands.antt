@@ -8,7 +8,7 @@ use mathlib.Core.List.{List, [], _∷_, _++_}
 use lib.ListN.{length, take}
 use Rattle.plain.specs.Ops.{Request, runAll}
 use Rattle.plain.specs.Record.{requestIn}
-use Rattle.plain.specs.Queue.{Entry, booking, reading, idOf, isExecuted, isConfirmed, left, placeIs, entryOf, firstOf, upTo, confirmedPart, costs}
+use Rattle.plain.specs.Queue.{Entry, booking, reading, idOf, isExecuted, isConfirmed, left, placeIs, entryOf, firstOf, upTo}
 use Rattle.plain.specs.Steps.{Answer, refused, queued, stepped, executed, committed, waiting, value, toDo, unconfirmed, begun, entry}
 use Rattle.plain.specs.Site.{Site, Call, Outcome, offer, work, confirm, read, look, query, zeros, call, accepts, refusal}
 use Rattle.plain.specs.Site.{classOf, isFree, isQueued, isKept, isOpen, named}
@@ -29,10 +29,10 @@ Counted m (p ∷ ps) = (p .0 ≡ suc m) × Counted (suc m) ps
 
 -- the answer says that the request i is committed under number n
 pub record Commits (a : Answer) (i n : ℕ) : Type 0 where
-  pub mark : ℕ
+  pub declined : ℕ
   pub slot : ℕ
   pub backs : ℕ
-  pub says : a ≡ committed i n mark slot backs
+  pub says : a ≡ committed i n declined slot backs
 
 -- the W of an accepted confirmation's answer: 0 for a commit
 abbrev pub wOf : Answer → ℕ
@@ -89,7 +89,7 @@ Shows a backs = ((w : ℕ) × (a ≡ toDo w backs)) ⊎ (a ≡ unconfirmed backs
 pub record CountedBack (h : List Call) : Type 0 where
   pub of-queued : (c : ℕ) → c < classCount → All (OfRequest (λ e. e .backs ≡ putBacks (idOf e) h)) (after h .class c .queue)
   pub of-looked : (i backs : ℕ) → Shows (call (after h) (look i) .answer) backs → backs ≡ putBacks i h
-  pub of-committed : (k : Call) (i n mark slot backs : ℕ) → call (after h) k .answer ≡ committed i n mark slot backs → backs ≡ putBacks i h
+  pub of-committed : (k : Call) (i n declined slot backs : ℕ) → call (after h) k .answer ≡ committed i n declined slot backs → backs ≡ putBacks i h
 
 -- a call is for class d: it is its class, or it names it
 abbrev pub For : Site → Call → ℕ → Type 0
@@ -150,8 +150,8 @@ pub record Frees (s : Site) (k : Call) (o : Outcome) (r : Request) (j : ℕ) : T
   pub number : ℕ
   pub confirmed : 0 < number
   pub both : BringsBoth k r (kept .it) number
-  pub mark : ℕ
-  pub says : o .answer ≡ committed (r .id) number mark j (kept .it .backs)
+  pub declined : ℕ
+  pub says : o .answer ≡ committed (r .id) number declined j (kept .it .backs)
   pub free : isFree (o .site) j ≡ true
 
 -- the answer says that a request is given slot j
@@ -192,28 +192,14 @@ pub record Reads (s : Site) (c p n : ℕ) (cells : List ℕ) (W x : ℕ) : Type 
   pub reads : suc x ≡ W → call s (work c) .answer ≡ entry p cells
   pub no-sooner : suc x < W → (l : List ℕ) → call s (work c) .answer ≡ entry p l → ⊥
 
--- a place of queries, 1 to 8, is free on a site, and none below it is
-pub record LowestFree (s : Site) (place : ℕ) : Type 0 where
-  pub from-1 : 0 < place
-  pub to-8 : place ≤ queryCount
-  pub free : isOpen s place ≡ false
-  pub lowest : (p : ℕ) → 0 < p → p < place → isOpen s p ≡ true
-
--- the work calls still to do for class c by what stands confirmed there: its confirmed requests and the entries of queries
-abbrev pub ahead : Site → ℕ → ℕ
-ahead s c = costs (confirmedPart (s .class c .queue))
-
--- the cells of class c got by running one after another, from zeros, its requests that were confirmed in a history: those with the numbers up to its
--- count of confirmations (the laws counted and taken-before)
-unfoldable pub cellsAfter : List Call → ℕ → List ℕ
-cellsAfter h c = runAll zeros (confirmedIn c h)
-
--- THE QUERY'S PROMISE, of a query of mask m accepted after the history h from fresh, and of its outcome o: the answer names the lowest free place; and
--- in each class that it names, after any further calls, its entry stands until the work calls are accepted that were ahead of it; the next one reads
--- it, and gives the cells after the numbers taken in h
+-- THE QUERY'S PROMISE, of a query of mask m accepted after the history h from fresh, and of its outcome o: the answer names its place; and in each
+-- class that it names, after any further calls, as long as fewer than W of them were accepted work calls for the class, its entry stands; the
+-- W-th reads it, and gives the cells got by running one after another, from zeros, the requests of the class that were confirmed in h. These are
+-- those with the numbers up to n, the count of confirmations when it began (the laws counted and taken-before)
 pub record QueryPromise (h : List Call) (m : ℕ) (o : Outcome) : Type 0 where
   pub place : ℕ
   pub says : o .answer ≡ begun place
-  pub lowest-free : LowestFree (after h) place
-  pub later : (c : ℕ) → named m c ≡ true → (g : List Call) → worksFrom (o .site) c g < suc (ahead (after h) c)
-      → Reads (afterFrom (o .site) g) c place (after h .confirmations) (cellsAfter h c) (suc (ahead (after h) c)) (worksFrom (o .site) c g)
+  pub W : ℕ → ℕ
+  pub at-least-one : (c : ℕ) → 0 < W c
+  pub later : (c : ℕ) → named m c ≡ true → (g : List Call) → worksFrom (o .site) c g < W c
+      → Reads (afterFrom (o .site) g) c place (after h .confirmations) (runAll zeros (confirmedIn c h)) (W c) (worksFrom (o .site) c g)

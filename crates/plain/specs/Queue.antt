@@ -131,11 +131,6 @@ abbrev pub confirmedPart : List Item → List Item
 confirmedPart [] = []
 confirmedPart (x ∷ q) = cond (isConfirmed x) (x ∷ confirmedPart q) (confirmedPart q)
 
--- the work calls that these still take, one after another
-abbrev pub costs : List Item → ℕ
-costs [] = 0
-costs (x ∷ q) = left x + costs q
-
 -- the queue with e directly before the first waiting one
 abbrev pub beforeWaiting : Item → List Item → List Item
 beforeWaiting e [] = e ∷ []

@@ -20,7 +20,7 @@ pub data Answer : Type 0 where
   queued : (id class place slot : ℕ) → Answer
   stepped : (id done : ℕ) → Answer
   executed : (id : ℕ) → Answer
-  committed : (id number mark slot backs : ℕ) → Answer
+  committed : (id number declined slot backs : ℕ) → Answer
   waiting : (id w putBack : ℕ) → Answer
   value : (cell : ℕ) → Answer
   toDo : (w backs : ℕ) → Answer

@@ -1,4 +1,4 @@
--- The answer of a plain call is a refusal exactly where the table gives a number, which is 3 or more, and then that number. Assumes nothing.
+-- The answer of a plain call is a refusal exactly where the table gives a number, which is 3 to 12, and then that number. Assumes nothing.
 use Prim.Native.Nat.{ℕ, _<_}
 use native.Mathlib.Omega.{arith}
 use mathlib.Core.Path.{_≡_, refl, sym, ap, _∙_}

@@ -1,5 +1,4 @@
 -- The promises kept, each file resting on those above it.
-pub mod Made
 pub mod Answers
 pub mod Stands
 pub mod Demand1

@@ -1,5 +1,5 @@
--- From fresh the count in a used slot is how many accepted confirmations and queries put its request back since its offer, and look and a commit answer
--- it. Assumes nothing.
+-- From fresh the count in a used slot is how many accepted confirmations put its request back since its offer, and look and a commit answer it.
+-- Assumes nothing.
 use Prim.Native.Nat.{ℕ, _<_}
 use mathlib.Core.Path.{_≡_, sym, ap, subst}
 use mathlib.Core.Logic.{_⊎_, inl, inr}

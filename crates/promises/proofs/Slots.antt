@@ -49,7 +49,7 @@ same-frees {j = j} p e f = record {
   number = f .number;
   confirmed = f .confirmed;
   both = f .both;
-  mark = f .mark;
+  declined = f .declined;
   says = p ∙ f .says;
   free = same-free e j ∙ f .free;
 }

@@ -11,7 +11,7 @@ use Rattle.plain.specs.Steps.{Answer, refused, queued, toDo, begun, entry}
 use Rattle.plain.specs.Site.{Call, work, look, named, zeros, classOf, entryAt, backsAt, tests, row, refusal}
 use Rattle.plain.specs.Sound.{All}
 use Rattle.plain.specs.History.{confirmations, confirmedIn, committedIn}
-use Rattle.plain.specs.Demands.{Commits, Counted, wOf, Keeps, Frees, Gives, LowestFree, ahead, cellsAfter}
+use Rattle.plain.specs.Demands.{Commits, Counted, wOf, Keeps, Frees, Gives}
 use Rattle.store.specs.Meaning.{cellsOf}
 use Rattle.store.specs.Calls.{State, RightCells, SoundState, plainOf}
 use Rattle.promises.specs.Runs.{Happens, Ready, Accepted, Run, start, more, wrong, worksIn}
@@ -71,16 +71,16 @@ pub record ReadsAt (z : State) (c p : ℕ) (cells : List ℕ) (W x : ℕ) : Type
   pub reads : suc x ≡ W → (z′ : State) (a : Answer) → Happens z (work c) z′ a → a ≡ entry p cells
   pub no-sooner : suc x < W → (z′ : State) (a : Answer) (l : List ℕ) → Happens z (work c) z′ a → a ≡ entry p l → ⊥
 
--- THE QUERY'S PROMISE, of an accepted query of mask m on x, which came from fresh by the calls h, that handed back y and answered a: the answer names the
--- lowest of the places 1 to 8 that was free; and in each class that it names, after any further calls, its entry stands until as many work calls for the
--- class were accepted as were ahead of it on x, and the next one reads it: it gives the cells got by running one after another, from zeros, the
--- requests of the class that were confirmed in h
-pub record Queried (h : List Call) (x : State) (m : ℕ) (y : State) (a : Answer) : Type 0 where
+-- THE QUERY'S PROMISE, of an accepted query of mask m after the calls h from fresh, that handed back y and answered a: the answer names its place; and in
+-- each class that it names, after any further calls, as long as fewer than W of them were accepted work calls for the class, its entry stands; the W-th
+-- reads it, and gives the cells got by running one after another, from zeros, the requests of the class that were confirmed in h
+pub record Queried (h : List Call) (m : ℕ) (y : State) (a : Answer) : Type 0 where
   pub place : ℕ
   pub says : a ≡ begun place
-  pub lowest-free : LowestFree (plainOf x) place
-  pub later : (c : ℕ) → named m c ≡ true → (g : List Call) (z : State) (r : Run y g z) → worksIn c r < suc (ahead (plainOf x) c)
-      → ReadsAt z c place (cellsAfter h c) (suc (ahead (plainOf x) c)) (worksIn c r)
+  pub W : ℕ → ℕ
+  pub at-least-one : (c : ℕ) → 0 < W c
+  pub later : (c : ℕ) → named m c ≡ true → (g : List Call) (z : State) (r : Run y g z) → worksIn c r < W c
+      → ReadsAt z c place (runAll zeros (confirmedIn c h)) (W c) (worksIn c r)
 
 -- in a run a request was given slot j
 abbrev pub GivenIn : {x y : State} {h : List Call} → Run x h y → ℕ → Type 0

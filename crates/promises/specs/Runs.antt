@@ -11,13 +11,11 @@ use Rattle.plain.specs.History.{isWork}
 use Rattle.store.specs.Store.{Shaped}
 use Rattle.store.specs.Calls.{State, RightCells, SoundState, Called, Started}
 
--- a call was made: x is the site with its two runs of cells as handed in, y as handed back, a the answer. This is known
+-- a call was made: x is the site with its two runs of cells as handed in, y as handed back, a the answer. This is known: the contract, and what
+-- the declared types say of both sites
 pub record Happens (x : State) (k : Call) (y : State) (a : Answer) : Type 0 where
-  -- what the declared types say of the site as it was handed in
   pub before : Shaped (x .site)
-  -- the contract
   pub called : Called x k y a
-  -- and what they say of it as it was handed back
   pub after : Shaped (y .site)
 
 -- a sound site with two runs of 1,024 cells
@@ -68,10 +66,8 @@ worksIn c (wrong base wrk k z a r n e) = worksIn c r
 
 -- a run from a state that fresh handed back with 0: only then the site counts as a fresh one
 pub record FromFresh (h : List Call) (y : State) : Type 0 where
-  -- the runs of cells that fresh was given
   pub base : List ℕ
   pub wrk : List ℕ
-  -- what it handed back
   pub begin : State
   pub started : Started base wrk (begin .site) 0 (begin .committed) (begin .working)
   pub run : Run begin h y

@@ -11,7 +11,7 @@ use Rattle.queries.specs.Table.{lowestFree}
 use Rattle.slots.specs.declared.Slot.{Slot}
 use Rattle.slots.specs.Meaning.{slotAt}
 use Rattle.store.specs.Store.{Store}
-use Rattle.store.specs.Meaning.{places, lenOf}
+use Rattle.store.specs.Meaning.{places, lenOf, cellsOf}
 use Rattle.store.specs.Sound.{times, Laid}
 use Rattle.store.specs.Steps.{placed, headSlot}
 use Rattle.store.specs.Calls.{State, RightCells, SoundState, Called}
@@ -38,19 +38,19 @@ store s = record {
 abbrev pub stateOf : Site → List ℕ → List ℕ → State
 stateOf s base wrk = record { site = store s; committed = base; working = wrk }
 
--- document 01's answer, with its number or values, for each case; a work call that reads an entry gives these cells, the committed ones of its class
+-- document 01's answer, with its number or values, for each case; an entry's cells are those of its class in the committed run that was handed back
 abbrev pub answerOf : Answer → List ℕ → K.Answer
-answerOf (a.Refused n) cells = K.refused n
-answerOf (a.Queued id class place slot) cells = K.queued id class place slot
-answerOf (a.Stepped id done) cells = K.stepped id done
-answerOf (a.Executed id) cells = K.executed id
-answerOf (a.Committed id number mark slot backs) cells = K.committed id number mark slot backs
-answerOf (a.Waiting id w back) cells = K.waiting id w back
-answerOf (a.Value n) cells = K.value n
-answerOf (a.ToDo w backs) cells = K.toDo w backs
-answerOf (a.Unconfirmed backs) cells = K.unconfirmed backs
-answerOf (a.Begun place) cells = K.begun place
-answerOf (a.Entry place) cells = K.entry place cells
+answerOf (a.Refused n) run = K.refused n
+answerOf (a.Queued id class place slot) run = K.queued id class place slot
+answerOf (a.Stepped id done) run = K.stepped id done
+answerOf (a.Executed id) run = K.executed id
+answerOf (a.Committed id number mark slot backs) run = K.committed id number mark slot backs
+answerOf (a.Waiting id w back) run = K.waiting id w back
+answerOf (a.Value n) run = K.value n
+answerOf (a.ToDo w backs) run = K.toDo w backs
+answerOf (a.Unconfirmed backs) run = K.unconfirmed backs
+answerOf (a.Begun place) run = K.begun place
+answerOf (a.Entry place class) run = K.entry place (cellsOf run class)
 
 -- what every call begins with: 0 where the cells are right and the site sound; any other number is what every call is refused with
 pub record Door (x : State) (no : ℕ) : Type 0 where

@@ -1,5 +1,4 @@
 // Confirm: a request gets its definitive number; it commits at once if it is the executed head, or moves forward to stand before the waiting ones.
-ghost use mathlib.Core.List.{[]};
 ghost use mathlib.Core.Path.{_≡_};
 ghost use Prim.Native.Nat.{_+_, _<_, _≤_};
 ghost use Rattle.plain.specs.Site.{confirm};
@@ -109,7 +108,7 @@ impl Site {
     ) -> Reply
         requires { ⌜ Confirmable (stateOf self (now committed) (now working)) i × (HeadDone (store self) i → ⊥) ⌝ }
         requires { ⌜ PlaceOf (store self) (slotAt (self .slots) i .class) i from × FirstWaiting (store self) (slotAt (self .slots) i .class) to ⌝ }
-        ensures { λ r. ⌜ Did (stateOf self (now (committed .entry)) (now (working .entry))) (confirm (slotAt (self .slots) i .id) (self .confirmations + 1)) (stateOf (r .site) (now (committed .entry)) (now (working .exit))) (answerOf (r .answer) []) ⌝ }
+        ensures { λ r. ⌜ Did (stateOf self (now (committed .entry)) (now (working .entry))) (confirm (slotAt (self .slots) i .id) (self .confirmations + 1)) (stateOf (r .site) (now (committed .entry)) (now (working .exit))) (answerOf (r .answer) (now (committed .entry))) ⌝ }
     {
         let v = self.slots[i];
         let c = v.class as usize;
@@ -145,7 +144,7 @@ impl Site {
     // Confirms the request in slot i, which is the executed head of its class: it commits.
     fn confirm_now(mut self, committed: &mut [u32], working: &[u32], i: usize) -> Reply
         requires { ⌜ Confirmable (stateOf self (now committed) (now working)) i × HeadDone (store self) i ⌝ }
-        ensures { λ r. ⌜ Did (stateOf self (now (committed .entry)) (now (working .entry))) (confirm (slotAt (self .slots) i .id) (self .confirmations + 1)) (stateOf (r .site) (now (committed .exit)) (now (working .entry))) (answerOf (r .answer) []) ⌝ }
+        ensures { λ r. ⌜ Did (stateOf self (now (committed .entry)) (now (working .entry))) (confirm (slotAt (self .slots) i .id) (self .confirmations + 1)) (stateOf (r .site) (now (committed .exit)) (now (working .entry))) (answerOf (r .answer) (now (committed .exit))) ⌝ }
     {
         let n = self.confirmations + 1;
         self.confirmations = n;
@@ -212,7 +211,7 @@ impl Site {
         id: u64,
         number: u64,
     ) -> Reply
-        ensures { λ r. ⌜ Called (stateOf self (now (committed .entry)) (now (working .entry))) (confirm id number) (stateOf (r .site) (now (committed .exit)) (now (working .exit))) (answerOf (r .answer) []) ⌝ }
+        ensures { λ r. ⌜ Called (stateOf self (now (committed .entry)) (now (working .entry))) (confirm id number) (stateOf (r .site) (now (committed .exit)) (now (working .exit))) (answerOf (r .answer) (now (committed .exit))) ⌝ }
     {
         let found = self.judge_confirm(&*committed, &*working, id, number);
         if found.no != 0 {

@@ -1,4 +1,4 @@
-// The site: its value, the check that it is sound with its cells, and fresh. The calls stand in offer, work, confirm, look and query.
+// The site: its value, the check that it is sound with its cells, and fresh. The calls stand in offer, work, confirm and look.
 ghost use mathlib.Core.Path.{_≡_};
 ghost use lib.ListN.{length};
 ghost use Rattle.plain.specs.Decides.{Decides};
@@ -90,6 +90,7 @@ pub enum Answer {
     },
     Entry {
         place: u8,
+        class: u8,
     },
 }
 

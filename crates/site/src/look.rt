@@ -1,5 +1,4 @@
 // Read and look: what a site answers without changing, and the search of an id.
-ghost use mathlib.Core.List.{[]};
 ghost use mathlib.Core.Path.{_≡_};
 ghost use Prim.Native.Nat.{_<_};
 ghost use Rattle.plain.specs.Queue.{owed};
@@ -66,7 +65,7 @@ impl Site {
 
     // The committed cell of a class; or refuses with 1, 2, 10 or 12.
     pub fn read(self, committed: &[u32], working: &[u32], class: u64, cell: u64) -> Answer
-        ensures { λ r. ⌜ Called (stateOf self (now (committed .entry)) (now (working .entry))) (read class cell) (stateOf self (now (committed .entry)) (now (working .entry))) (answerOf r []) ⌝ }
+        ensures { λ r. ⌜ Called (stateOf self (now (committed .entry)) (now (working .entry))) (read class cell) (stateOf self (now (committed .entry)) (now (working .entry))) (answerOf r (now (committed .entry))) ⌝ }
     {
         let no = self.door(committed, working);
         if no != 0 {
@@ -84,7 +83,7 @@ impl Site {
 
     // W for a confirmed request, or that it is unconfirmed, and how often it was put back; or refuses with 1, 2 or 8.
     pub fn look(self, committed: &[u32], working: &[u32], id: u64) -> Answer
-        ensures { λ r. ⌜ Called (stateOf self (now (committed .entry)) (now (working .entry))) (look id) (stateOf self (now (committed .entry)) (now (working .entry))) (answerOf r []) ⌝ }
+        ensures { λ r. ⌜ Called (stateOf self (now (committed .entry)) (now (working .entry))) (look id) (stateOf self (now (committed .entry)) (now (working .entry))) (answerOf r (now (committed .entry))) ⌝ }
     {
         let no = self.door(committed, working);
         if no != 0 {

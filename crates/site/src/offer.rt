@@ -1,5 +1,4 @@
 // Offer: a record's request joins the end of its class's queue, in the lowest-numbered free slot.
-ghost use mathlib.Core.List.{[]};
 ghost use Prim.Native.Nat.{_<_};
 ghost use lib.ListN.{getD};
 ghost use Rattle.plain.specs.Site.{offer};
@@ -42,7 +41,7 @@ impl Site {
     // Offer on a sound site.
     fn offer_sound(mut self, committed: &[u32], working: &[u32], bytes: &[u8]) -> Reply
         requires { ⌜ RightCells (stateOf self (now committed) (now working)) × SoundState (stateOf self (now committed) (now working)) ⌝ }
-        ensures { λ r. ⌜ Did (stateOf self (now (committed .entry)) (now (working .entry))) (offer (now (bytes .entry))) (stateOf (r .site) (now (committed .entry)) (now (working .entry))) (answerOf (r .answer) []) ⌝ }
+        ensures { λ r. ⌜ Did (stateOf self (now (committed .entry)) (now (working .entry))) (offer (now (bytes .entry))) (stateOf (r .site) (now (committed .entry)) (now (working .entry))) (answerOf (r .answer) (now (committed .entry))) ⌝ }
     {
         let got = read_record(bytes);
         if !got.ok {
@@ -93,7 +92,7 @@ impl Site {
 
     // Queues the request of a record and answers id, class, place (1 is the head) and slot; or refuses with 1, 2, 3, 4, 14 or 5.
     pub fn offer(mut self, committed: &[u32], working: &[u32], bytes: &[u8]) -> Reply
-        ensures { λ r. ⌜ Called (stateOf self (now (committed .entry)) (now (working .entry))) (offer (now (bytes .entry))) (stateOf (r .site) (now (committed .entry)) (now (working .entry))) (answerOf (r .answer) []) ⌝ }
+        ensures { λ r. ⌜ Called (stateOf self (now (committed .entry)) (now (working .entry))) (offer (now (bytes .entry))) (stateOf (r .site) (now (committed .entry)) (now (working .entry))) (answerOf (r .answer) (now (committed .entry))) ⌝ }
     {
         let no = self.door(committed, working);
         if no != 0 {

@@ -1,5 +1,4 @@
 // Query: each class that a mask names gets an entry, before its waiting requests; a head that waits is put back as in confirm. Work reads the entries.
-ghost use mathlib.Core.List.{[]};
 ghost use Rattle.plain.specs.Site.{query};
 ghost use Rattle.store.specs.Steps.{FirstsWaiting};
 ghost use Rattle.store.specs.Calls.{Did, Called};
@@ -46,13 +45,13 @@ impl Site {
         firsts: [usize; 16],
     ) -> Reply
         requires { ⌜ MayQuery (stateOf self (now committed) (now working)) mask × FirstsWaiting (store self) firsts ⌝ }
-        ensures { λ r. ⌜ Did (stateOf self (now (committed .entry)) (now (working .entry))) (query mask) (stateOf (r .site) (now (committed .entry)) (now (working .exit))) (answerOf (r .answer) []) ⌝ }
+        ensures { λ r. ⌜ Did (stateOf self (now (committed .entry)) (now (working .entry))) (query mask) (stateOf (r .site) (now (committed .entry)) (now (working .exit))) (answerOf (r .answer) (now (committed .entry))) ⌝ }
     {
         let table = self.queries;
         let p = lowest_free(table);
         self.begun = self.begun + 1;
         let mut c = 0;
-        while c < cells::CLASSES {
+        while c < 16 {
             if names(mask, c as u32) {
                 let to = firsts[c];
                 let len = self.lens[c];
@@ -82,7 +81,7 @@ impl Site {
 
     // Begins a query over the classes of a mask and answers its place, 1 to 8; or refuses with 1, 2, 17, 18 or 24.
     pub fn query(mut self, committed: &[u32], working: &mut [u32], mask: u16) -> Reply
-        ensures { λ r. ⌜ Called (stateOf self (now (committed .entry)) (now (working .entry))) (query mask) (stateOf (r .site) (now (committed .entry)) (now (working .exit))) (answerOf (r .answer) []) ⌝ }
+        ensures { λ r. ⌜ Called (stateOf self (now (committed .entry)) (now (working .entry))) (query mask) (stateOf (r .site) (now (committed .entry)) (now (working .exit))) (answerOf (r .answer) (now (committed .entry))) ⌝ }
     {
         let no = self.judge_query(committed, &*working, mask);
         if no != 0 {

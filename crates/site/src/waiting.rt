@@ -12,7 +12,7 @@ use crate::SLOT_LIMIT;
 use crate::SLOTS;
 use crate::Site;
 use checks::PLACES;
-use checks::gather_numbers;
+use checks::gather_stages;
 use slots::Slot;
 
 // The place of the first waiting request in the queue that begins at a, its length where none waits.
@@ -51,10 +51,10 @@ impl Site {
         ensures { λ r. ⌜ FirstWaiting (store self) c r ⌝ }
     {
         let slots = self.slots;
-        let numbers = gather_numbers(slots);
+        let table = self.queries;
+        let g = gather_stages(slots, table);
         let queue = self.queue;
-        let lens = self.lens;
-        waits_from(&numbers, &queue, CLASS_PLACES * c, lens[c] as usize)
+        waits_from(&g.numbers, &queue, CLASS_PLACES * c, self.lens[c] as usize)
     }
 
     // The same of every class.
@@ -63,13 +63,14 @@ impl Site {
         ensures { λ r. ⌜ FirstsWaiting (store self) r ⌝ }
     {
         let slots = self.slots;
-        let numbers = gather_numbers(slots);
+        let table = self.queries;
+        let g = gather_stages(slots, table);
         let queue = self.queue;
         let lens = self.lens;
         let mut ends = [0; 16];
         let mut c = 0;
-        while c < cells::CLASSES {
-            ends[c] = waits_from(&numbers, &queue, CLASS_PLACES * c, lens[c] as usize);
+        while c < 16 {
+            ends[c] = waits_from(&g.numbers, &queue, CLASS_PLACES * c, lens[c] as usize);
             c += 1;
         }
         ends

@@ -3,7 +3,6 @@ ghost use Prim.Native.Nat.{_<_, _≤_};
 ghost use Rattle.plain.specs.Site.{work};
 ghost use Rattle.store.specs.Steps.{Commitable, CommitDone, headSlot};
 ghost use Rattle.plain.specs.Decides.{Decides};
-ghost use Rattle.store.specs.Meaning.{cellsOf};
 ghost use Rattle.store.specs.Calls.{Did, Called};
 ghost use Rattle.site.specs.Held.{store, stateOf, answerOf, Judged, MayWork};
 use crate::Answer;
@@ -78,7 +77,7 @@ impl Site {
     // The head of class c, an entry of a query, is read and leaves; the query's place is free where it was the last.
     fn read_entry(mut self, committed: &[u32], working: &[u32], c: usize) -> Reply
         requires { ⌜ MayWork (stateOf self (now committed) (now working)) c × (128 ≤ headSlot (store self) c) ⌝ }
-        ensures { λ r. ⌜ Did (stateOf self (now (committed .entry)) (now (working .entry))) (work c) (stateOf (r .site) (now (committed .entry)) (now (working .entry))) (answerOf (r .answer) (cellsOf (now (committed .entry)) c)) ⌝ }
+        ensures { λ r. ⌜ Did (stateOf self (now (committed .entry)) (now (working .entry))) (work c) (stateOf (r .site) (now (committed .entry)) (now (working .entry))) (answerOf (r .answer) (now (committed .entry))) ⌝ }
     {
         let b = self.queue[CLASS_PLACES * c];
         let p = (b - SLOT_LIMIT) as usize;
@@ -91,6 +90,7 @@ impl Site {
             site: self,
             answer: Answer::Entry {
                 place: b - SLOT_LIMIT + 1,
+                class: c as u8,
             },
         }
     }
@@ -98,7 +98,7 @@ impl Site {
     // The head of class c does its next operation, and commits if that was its last and it is confirmed.
     fn work_head(mut self, committed: &mut [u32], working: &mut [u32], c: usize) -> Reply
         requires { ⌜ MayWork (stateOf self (now committed) (now working)) c × (headSlot (store self) c < 128) ⌝ }
-        ensures { λ r. ⌜ Did (stateOf self (now (committed .entry)) (now (working .entry))) (work c) (stateOf (r .site) (now (committed .exit)) (now (working .exit))) (answerOf (r .answer) (cellsOf (now (committed .exit)) c)) ⌝ }
+        ensures { λ r. ⌜ Did (stateOf self (now (committed .entry)) (now (working .entry))) (work c) (stateOf (r .site) (now (committed .exit)) (now (working .exit))) (answerOf (r .answer) (now (committed .exit))) ⌝ }
     {
         let s = self.queue[CLASS_PLACES * c];
         let i = s as usize;
@@ -137,7 +137,7 @@ impl Site {
 
     // The head of a class does its next operation; answers id and operations done, that it is executed, its commit, or the entry read; or refuses with 1, 2, 10 or 11.
     pub fn work(mut self, committed: &mut [u32], working: &mut [u32], class: u64) -> Reply
-        ensures { λ r. ⌜ Called (stateOf self (now (committed .entry)) (now (working .entry))) (work class) (stateOf (r .site) (now (committed .exit)) (now (working .exit))) (answerOf (r .answer) (cellsOf (now (committed .exit)) class)) ⌝ }
+        ensures { λ r. ⌜ Called (stateOf self (now (committed .entry)) (now (working .entry))) (work class) (stateOf (r .site) (now (committed .exit)) (now (working .exit))) (answerOf (r .answer) (now (committed .exit))) ⌝ }
     {
         let no = self.judge_work(&*committed, &*working, class);
         if no != 0 {

@@ -2,7 +2,7 @@
 use Prim.Native.Nat.{ℕ, suc, _+_, _*_, _-_, _<_, _≤_, _^_}
 use native.Mathlib.Omega.{arith}
 use native.Mathlib.Numerals.{add-one}
-use mathlib.Core.Path.{_≡_, refl, sym, ap, subst, _∙_}
+use mathlib.Core.Path.{_≡_, refl, sym, ap, _∙_}
 use mathlib.Core.Bool.{true}
 use mathlib.Core.List.{List, [], _∷_}
 use lib.ListN.{length, getD, take, drop, length-map}
@@ -19,7 +19,7 @@ use Rattle.queries.specs.declared.Query.{Query}
 use Rattle.queries.specs.Table.{isFreeAt, lowestFree}
 use Rattle.plain.proofs.Sums.{lowest-passes}
 use Rattle.store.proofs.Judged.{query-taken}
-use Rattle.store.proofs.Turns.{Ready, Going}
+use Rattle.store.proofs.Turns.{Ready, Within}
 use Rattle.store.specs.Store.{Store, Shaped, queryAt}
 use Rattle.store.specs.Meaning.{lenOf, places, itemAt, queueOf, plain, plainClass}
 use Rattle.store.specs.Sound.{Laid}
@@ -100,12 +100,8 @@ free-at : (l : List Query) → lowestFree l < 8 → queryAt l (lowestFree l) .cl
 unfolding lowestFree
 free-at l m = eqb-true _ 0 (lowest-passes (isFreeAt l) 0 8 m)
 
--- A query that may begin
-module _ (x : State) (w : Shaped (x .site)) (r : RightCells x) (q : SoundState x) (m : ℕ) (small : m < 2 ^ 16) (some : m ≡ 0 → ⊥)
-    (free : lowestFree (x .site .queries) < 8) (more : x .site .begun < 4294967295) where
-  taken : (S.refusal (plainOf x) (S.query m) ≡ 0) × (S.freePlace (plainOf x) ≡ suc (lowestFree (x .site .queries)))
-  taken = query-taken x w r q m small some free more
-
+module _ (x : State) (w : Shaped (x .site)) (r : RightCells x) (q : SoundState x) (m : ℕ) (p : ℕ) (is : p ≡ lowestFree (x .site .queries)) (free : p < 8)
+    (few : x .site .confirmations ≤ 4294967295) (more : x .site .begun < 4294967295) where
   counted-laid : Laid (counted (x .site))
   counted-laid = record {
     free-or-valid = q .laid .free-or-valid;
@@ -117,40 +113,32 @@ module _ (x : State) (w : Shaped (x .site)) (r : RightCells x) (q : SoundState x
     free-queries-zero = q .laid .free-queries-zero;
   }
 
-  module _ (firsts : List ℕ) (p : ℕ) (is : p ≡ lowestFree (x .site .queries)) where
-    abbrev After : Store → List ℕ → ℕ → Type 0
-    After t wrk′ c = Going (counted (x .site)) t (x .committed) (x .working) wrk′ m p (x .site .confirmations) c firsts
+  -- before the first class
+  pub start : Within (counted (x .site)) (counted (x .site)) (x .committed) (x .working) (x .working) m p (x .site .confirmations) 0
+  start = record {
+    upto = upto-none (counted (x .site)) (x .committed) (x .working) m p (x .site .confirmations) counted-laid (rw is (free-at (x .site .queries) (rw is at free)));
+    shape = record {
+      slots = w .slots;
+      ops = w .ops;
+      ids = w .ids;
+      queue = w .queue;
+      lens = w .lens;
+      low = w .low;
+      high = w .high;
+      kept = w .kept;
+      queries = w .queries;
+      masks = w .masks;
+    };
+    cells = r .1;
+    backs = λ i l. omega (arith, q .backs-bounded i l);
+  }
 
-    -- before the first class
-    pub start : x .site .confirmations ≤ 4294967295 → FirstsWaiting (x .site) firsts → After (counted (x .site)) (x .working) 0
-    start few f = record {
-      ready = query-ready x w r q m firsts f (taken .0);
-      index = rw is free;
-      right = r .0;
-      upto = upto-none (counted (x .site)) (x .committed) (x .working) m p (x .site .confirmations) counted-laid (rw is (free-at (x .site .queries) free));
-      shape = record {
-        slots = w .slots;
-        ops = w .ops;
-        ids = w .ids;
-        queue = w .queue;
-        lens = w .lens;
-        low = w .low;
-        high = w .high;
-        kept = w .kept;
-        queries = w .queries;
-        masks = w .masks;
-      };
-      cells = r .1;
-      backs = λ i l. omega (arith, q .backs-bounded i l);
-    }
-
-    -- AFTER THE LAST it is the plain call
-    pub begun-is : (t : Store) (wrk′ : List ℕ) (c : ℕ) → 16 ≤ c → c ≤ 16 → After t wrk′ c
-        → Did x (S.query m) (record { site = t; committed = x .committed; working = wrk′ }) (begun (p + 1))
-    unfolding plain plainClass
-    begun-is t wrk′ c a b after =
-        let last : c ≡ 16 = omega arith in
-        let u : After t wrk′ 16 = subst (After t wrk′) last after in
-        let place : S.freePlace (plainOf x) ≡ suc p = taken .1 ∙ ap suc (sym is) in
-        rw (add-one p) (query-did x (record { site = t; committed = x .committed; working = wrk′ }) w m p r (r .0, u .cells) q (counted (x .site)) (refl, refl, refl, refl)
-        (λ d l. refl) place (taken .0) (u .shape .slots, u .shape .queries) refl (u .upto))
+  -- AFTER THE LAST it is the plain call
+  pub begun-is : m < 2 ^ 16 → (m ≡ 0 → ⊥) → (t : Store) (wrk′ : List ℕ) → Within (counted (x .site)) t (x .committed) (x .working) wrk′ m p (x .site .confirmations) 16
+      → Did x (S.query m) (record { site = t; committed = x .committed; working = wrk′ }) (begun (p + 1))
+  unfolding plain plainClass
+  begun-is small some t wrk′ u =
+      let taken = query-taken x w r q m small some (rw is at free) more in
+      let place : S.freePlace (plainOf x) ≡ suc p = taken .1 ∙ ap suc (sym is) in
+      rw (add-one p) (query-did x (record { site = t; committed = x .committed; working = wrk′ }) w m p r (r .0, u .cells) q (counted (x .site)) (refl, refl, refl, refl)
+      (λ d l. refl) place (taken .0) (u .shape .slots, u .shape .queries) refl (u .upto))

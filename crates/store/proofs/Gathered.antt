@@ -28,10 +28,10 @@ module _ (l : List Slot) (field : Slot → ℕ) where
   abbrev pub GatheredTo : List ℕ → ℕ → Type 0
   GatheredTo xs i = (length xs ≡ 128) × ((k : ℕ) → k < i → nth xs k ≡ field (slotAt l k))
 
-  pub none-gathered : GatheredTo (replicate 128 0) 0
+  none-gathered : GatheredTo (replicate 128 0) 0
   none-gathered = (length-replicate {A = ℕ} 128 0, below-none _)
 
-  pub one-gathered : (xs : List ℕ) (i : ℕ) → i < 128 → GatheredTo xs i → GatheredTo (set xs i (field (slotAt l i))) (i + 1)
+  one-gathered : (xs : List ℕ) (i : ℕ) → i < 128 → GatheredTo xs i → GatheredTo (set xs i (field (slotAt l i))) (i + 1)
   one-gathered xs i m h = (
     length-set xs i (field (slotAt l i)) ∙ h .0,
     below-more (λ k. nth (set xs i (field (slotAt l i))) k ≡ field (slotAt l k)) i
@@ -40,7 +40,7 @@ module _ (l : List Slot) (field : Slot → ℕ) where
   )
 
   -- past the slots both are 0
-  pub all-gathered : (xs : List ℕ) (i : ℕ) → length l ≡ 128 → field noSlot ≡ 0 → 128 ≤ i → GatheredTo xs i → nth xs ≡ (λ k. field (slotAt l k))
+  all-gathered : (xs : List ℕ) (i : ℕ) → length l ≡ 128 → field noSlot ≡ 0 → 128 ≤ i → GatheredTo xs i → nth xs ≡ (λ k. field (slotAt l k))
   all-gathered xs i n z m h = λ j. λ k. each k j
     where
       each : (k : ℕ) → nth xs k ≡ field (slotAt l k)

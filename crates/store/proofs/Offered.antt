@@ -1,5 +1,4 @@
--- Offer on a sound site, by cases: the record is broken, its id is queued or kept, the slots are full, or it is queued in the lowest free slot.
--- Assumes nothing.
+-- Offer on a sound site, by cases: the id is queued, the slots are full, or it is queued in the lowest free slot. Assumes nothing.
 use Prim.Native.Nat.{ℕ, _+_, _-_, _%_, _<_, _≤_}
 use native.Mathlib.Omega.{arith}
 use mathlib.Core.Path.{_≡_, refl, sym, ap, _∙_, subst}

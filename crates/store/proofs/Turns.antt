@@ -39,12 +39,8 @@ pub record Ready (s : Store) (m : ℕ) (firsts : List ℕ) : Type 0 where
   pub behind : (d : ℕ) → d < 16 → All Waiting (drop (getD firsts d 0) (queueOf s d))
   pub room : (d : ℕ) → d < 16 → named m d ≡ true → length (queueOf s d) < 136
 
--- AFTER THE CLASSES BEFORE c of a query of mask m that takes index p when n confirmations are taken: as Upto has it, in shape, and no count of put-backs near
--- its bound
-pub record Going (s t : Store) (base wrk wrk′ : List ℕ) (m p n c : ℕ) (firsts : List ℕ) : Type 0 where
-  pub ready : Ready s m firsts
-  pub index : p < 8
-  pub right : length base ≡ 1024
+-- AFTER THE CLASSES BEFORE c: as Upto has it, in shape, and no count of put-backs near its bound
+pub record Within (s t : Store) (base wrk wrk′ : List ℕ) (m p n c : ℕ) : Type 0 where
   pub upto : Upto s t base wrk wrk′ m p n c
   pub shape : Shaped t
   pub cells : length wrk′ ≡ 1024
@@ -65,21 +61,18 @@ settled-length : (q : List Item) (base w : List ℕ) → length (settledOn q bas
 settled-length [] base w = refl
 settled-length (x ∷ q) base w = refl
 
-module _ {s t : Store} {base wrk wrk′ : List ℕ} {m p n c : ℕ} {firsts : List ℕ} (u : Going s t base wrk wrk′ m p n c firsts) where
-  -- a class that is not named
-  pub skipped : named m c ≡ false → Going s t base wrk wrk′ m p n (c + 1) firsts
-  skipped f = record {
-    ready = u .ready;
-    index = u .index;
-    right = u .right;
-    upto = rw (add-one c) (upto-skip s t base wrk wrk′ m p n c (u .upto) f);
-    shape = u .shape;
-    cells = u .cells;
-    backs = λ i l. omega (arith, u .backs i l);
-  }
+-- a class that is not named
+pub skipped : (s t : Store) (base wrk wrk′ : List ℕ) (m p n c : ℕ) → Within s t base wrk wrk′ m p n c → named m c ≡ false → Within s t base wrk wrk′ m p n (c + 1)
+skipped s t base wrk wrk′ m p n c u f = record {
+  upto = rw (add-one c) (upto-skip s t base wrk wrk′ m p n c (u .upto) f);
+  shape = u .shape;
+  cells = u .cells;
+  backs = λ i l. omega (arith, u .backs i l);
+}
 
 -- and one that is
-module _ {s t : Store} {base wrk wrk′ : List ℕ} {m p n c : ℕ} {firsts : List ℕ} (u : Going s t base wrk wrk′ m p n c firsts) (l : c < 16) (here : named m c ≡ true) where
+module _ (s t : Store) (base wrk wrk′ : List ℕ) (m p n c : ℕ) (firsts : List ℕ) (ready : Ready s m firsts) (u : Within s t base wrk wrk′ m p n c) (l : c < 16) (k : p < 8)
+    (here : named m c ≡ true) (right : length base ≡ 1024) where
   abbrev to : ℕ
   to = getD firsts c 0
 
@@ -97,16 +90,16 @@ module _ {s t : Store} {base wrk wrk′ : List ℕ} {m p n c : ℕ} {firsts : Li
   count = length-map (places t c) (itemAt (t .slots) (t .queries)) ∙ places-length t (u .shape) (u .upto .laid) c l
 
   pub room-here : lenOf t c < 136
-  room-here = omega (arith, count, ap length same-queue, u .ready .room c l here)
+  room-here = omega (arith, count, ap length same-queue, ready .room c l here)
 
   pub to-fits : to ≤ lenOf t c
-  to-fits = omega (arith, count, ap length same-queue, u .ready .fits c l)
+  to-fits = omega (arith, count, ap length same-queue, ready .fits c l)
 
   ahead : All Confirmed (take to (queueOf t c))
-  ahead = rw same-queue (u .ready .ahead c l)
+  ahead = rw same-queue (ready .ahead c l)
 
   behind : All Waiting (drop to (queueOf t c))
-  behind = rw same-queue (u .ready .behind c l)
+  behind = rw same-queue (ready .behind c l)
 
   head-first : 0 < lenOf t c → queueOf t c ≡ itemAt (t .slots) (t .queries) hd ∷ items (t .slots) (t .queries) (drop 1 (places t c))
   head-first some = ap (items (t .slots) (t .queries)) (head-is t (u .shape) (u .upto .laid) c l some)
@@ -135,7 +128,7 @@ module _ {s t : Store} {base wrk wrk′ : List ℕ} {m p n c : ℕ} {firsts : Li
     laid = u .upto .laid;
     class = l;
     some = omega arith;
-    cells = (u .right, u .cells);
+    cells = (right, u .cells);
     request = front z some .0;
     fits = omega (arith, u .backs hd (front z some .0));
   }
@@ -174,15 +167,12 @@ module _ {s t : Store} {base wrk wrk′ : List ℕ} {m p n c : ℕ} {firsts : Li
 
   -- THE TURN: the entry stands before the waiting
   pub turned : (t₁ : Store) (wrk₁ : List ℕ) → Put t₁ wrk₁ → (t₂ : Store) (v : Query) → Written t₁ t₂ c p to (lenOf t c) v → Grown (queryAt (t₁ .queries) p .classes) c (v .classes)
-      → v .begun ≡ n → v .classes < 2 ^ 16 → Going s t₂ base wrk wrk₁ m p n (c + 1) firsts
+      → v .begun ≡ n → v .classes < 2 ^ 16 → Within s t₂ base wrk wrk₁ m p n (c + 1)
   turned t₁ wrk₁ put t₂ v at-len g is small = record {
-    ready = u .ready;
-    index = u .index;
-    right = u .right;
-    upto = rw (add-one c) (upto-more s t base wrk wrk′ m p n c (u .upto) t₁ t₂ wrk₁ to (v .classes) (put .shape) l (u .index) here (put .settled)
-        (subst (λ (a : ℕ). Enters t₁ t₂ c p to a (v .classes)) is (enters t₁ t₂ (put .shape) (put .settled .laid) c p to v l (u .index) room fits e g))
+    upto = rw (add-one c) (upto-more s t base wrk wrk′ m p n c (u .upto) t₁ t₂ wrk₁ to (v .classes) (put .shape) l k here (put .settled)
+        (subst (λ (a : ℕ). Enters t₁ t₂ c p to a (v .classes)) is (enters t₁ t₂ (put .shape) (put .settled .laid) c p to v l k room fits e g))
         (omega (arith, ap length queue-is, settled-length (queueOf t c) (cellsOf base c) (cellsOf wrk′ c), count, to-fits)) (both .0) (both .1));
-    shape = entered-shape t₁ t₂ (put .shape) (put .settled .laid) c p to v l (u .index) room fits e small;
+    shape = entered-shape t₁ t₂ (put .shape) (put .settled .laid) c p to v l k room fits e small;
     cells = put .cells;
     backs = λ i l. rw (e .slots) (put .backs i l);
   }

@@ -1,44 +1,34 @@
 //! A sound subject as the model's plain queues, and back to its arrays.
 
 use crate::subject::Subject;
-use crate::view::{entry_of, has_to_read, kept, place_of, query_at, queue, recent};
+use crate::view::{kept, place_of, queue, recent};
 use model::answer::Answer;
 use model::record::{Op, Request};
-use model::site::{Class, Entry, Item, Reading, Site};
-use shpendorak::raw::{self, CELLS, CLASS_PLACES, CLASSES, Query, Slot};
-use shpendorak::{Answer as Given, Refusal};
+use model::site::{Class, Entry, Site};
+use shpendorak::raw::{self, CELLS, CLASSES, Numbers, SLOTS, Slot};
 
 /// The plain queues that a sound subject stands for.
 pub fn to_plain(subject: &Subject) -> Site {
     let classes = (0..CLASSES).map(|class| class_of(subject, class)).collect();
-    let raw::Site { confirmations, commits, begun: queries, .. } = subject.site;
+    let raw::Site { confirmations, commits, .. } = subject.site;
     let kept = recent(&subject.site).map(|number| kept(&subject.site, number)).collect();
-    Site { classes, confirmations, commits, queries, kept }
+    Site { classes, confirmations, commits, kept }
 }
 
 /// One class of a sound subject.
 fn class_of(subject: &Subject, class: usize) -> Class {
     let cells = class * CELLS..(class + 1) * CELLS;
-    let places = queue(&subject.site, class).iter();
+    let slots = &subject.site.slots;
+    let entries = queue(&subject.site, class).iter();
     Class {
-        queue: places.map(|&place| item_of(&subject.site, place)).collect(),
+        queue: entries.map(|&slot| entry_of(&slots[usize::from(slot)], slot)).collect(),
         committed: subject.committed[cells.clone()].try_into().expect("a class has 64 cells"),
         working: subject.working[cells].try_into().expect("a class has 64 cells"),
     }
 }
 
-/// What a queue place of a sound site names.
-fn item_of(site: &raw::Site, place: u8) -> Item {
-    match query_at(place) {
-        None => Item::Request(request_of(&site.slots[usize::from(place)], place)),
-        Some(index) => {
-            Item::Query(Reading { place: index as u8 + 1, begun: site.queries[index].begun })
-        }
-    }
-}
-
 /// The queued request of a used slot.
-fn request_of(slot: &Slot, number: u8) -> Entry {
+fn entry_of(slot: &Slot, number: u8) -> Entry {
     let ops = slot.ops[..usize::from(slot.count)].iter().map(op_of).collect();
     Entry {
         request: Request { id: slot.id, class: slot.class, ops },
@@ -66,9 +56,11 @@ fn op_of(op: &raw::Op) -> Op {
 pub fn from_plain(plain: &Site) -> Subject {
     let mut subject = Subject::empty();
     for (class, queued) in plain.classes.iter().enumerate() {
-        for (place, item) in queued.queue.iter().enumerate() {
-            let name = put(&mut subject.site, class, item);
-            subject.site.queue[class * CLASS_PLACES + place] = name;
+        for (place, entry) in queued.queue.iter().enumerate() {
+            let at = usize::from(entry.slot);
+            subject.site.slots[at] = slot_of(entry);
+            subject.site.queue[class * SLOTS + place] = entry.slot;
+            mark_used(&mut subject.site, at);
         }
         subject.site.lens[class] = queued.queue.len() as u8;
         let cells = class * CELLS..(class + 1) * CELLS;
@@ -77,30 +69,10 @@ pub fn from_plain(plain: &Site) -> Subject {
     }
     subject.site.confirmations = plain.confirmations;
     subject.site.commits = plain.commits;
-    subject.site.begun = plain.queries;
     for (number, id) in recent(&subject.site).zip(&plain.kept) {
         subject.site.kept[place_of(number)] = *id;
     }
     subject
-}
-
-/// Puts what stands in the queue of a class into the site; what names it there.
-fn put(site: &mut raw::Site, class: usize, item: &Item) -> u8 {
-    match item {
-        Item::Request(entry) => {
-            let at = usize::from(entry.slot);
-            site.slots[at] = slot_of(entry);
-            mark_used(site, at);
-            entry.slot
-        }
-        Item::Query(Reading { place, begun }) => {
-            let index = usize::from(*place) - 1;
-            let query = &mut site.queries[index];
-            assert!(!has_to_read(query, class), "a query has one entry at most in a queue");
-            *query = Query { classes: query.classes | 1 << class, begun: *begun };
-            entry_of(index)
-        }
-    }
 }
 
 /// Notes in the map that a slot is used.
@@ -138,28 +110,24 @@ fn raw_op(op: Op) -> raw::Op {
     }
 }
 
-/// An answer of the model as the library gives it.
-pub fn given(answer: Answer) -> Result<Given, Refusal> {
-    let narrow = |number: usize| number as u32;
-    Ok(match answer {
+/// An answer of the model as the six numbers of the archive.
+pub fn numbers(answer: Answer) -> Numbers {
+    let wide = |number: usize| number as u64;
+    match answer {
         Answer::Queued { id, class, place, slot } => {
-            Given::Queued { id, class: class.into(), place: narrow(place), slot: slot.into() }
+            [raw::QUEUED, id.into(), class.into(), wide(place), slot.into(), 0]
         }
-        Answer::Stepped { id, done } => Given::Stepped { id, done: narrow(done) },
-        Answer::Executed { id } => Given::Executed { id },
+        Answer::Stepped { id, done } => [raw::STEPPED, id.into(), wide(done), 0, 0, 0],
+        Answer::Executed { id } => [raw::EXECUTED, id.into(), 0, 0, 0, 0],
         Answer::Committed { id, number, mark, slot, backs } => {
-            Given::Committed { id, number, mark: narrow(mark), slot: slot.into(), backs }
+            [raw::COMMITTED, id.into(), number.into(), wide(mark), slot.into(), backs]
         }
-        Answer::Waiting { id, w, put_back } => Given::Waiting { id, w: narrow(w), put_back },
-        Answer::Value(cell) => Given::Value(cell),
-        Answer::ToDo { w, backs } => Given::ToDo { w: narrow(w), backs },
-        Answer::Unconfirmed { backs } => Given::Unconfirmed { backs },
-        Answer::Begun { place } => Given::Begun { place: place.into() },
-        Answer::Read { place, class, cells } => {
-            Given::Entry { place: place.into(), class: class.into(), cells }
+        Answer::Waiting { id, w, put_back } => {
+            [raw::WAITING, id.into(), wide(w), put_back.into(), 0, 0]
         }
-        Answer::Refused(number) => {
-            return Err(Refusal::numbered(number.into()).expect("a refusal of a call"));
-        }
-    })
+        Answer::Value(cell) => [raw::VALUE, cell.into(), 0, 0, 0, 0],
+        Answer::ToDo { w, backs } => [raw::TO_DO, wide(w), backs, 0, 0, 0],
+        Answer::Unconfirmed { backs } => [raw::UNCONFIRMED, backs, 0, 0, 0, 0],
+        Answer::Refused(number) => [raw::REFUSED, number.into(), 0, 0, 0, 0],
+    }
 }

@@ -3,11 +3,12 @@
 use crate::call::{NAMES, Outcome, State};
 use crate::rules::RULES;
 use crate::subject::spots;
-use shpendorak::{Answer, Refusal};
+use shpendorak::Refusal;
+use shpendorak::raw::{REFUSED, STARTED};
 use std::io::{self, Write};
 
-/// The answers other than a refusal.
-const ANSWERS: [&str; 11] = [
+/// The answers other than a refusal, in the order of their kinds.
+const ANSWERS: [&str; STARTED as usize] = [
     "queued",
     "stepped",
     "executed",
@@ -17,33 +18,12 @@ const ANSWERS: [&str; 11] = [
     "to-do",
     "unconfirmed",
     "started",
-    "begun",
-    "entry",
 ];
-/// The place of an answer's word.
-fn place_of(answer: Answer) -> usize {
-    let word = match answer {
-        Answer::Queued { .. } => "queued",
-        Answer::Stepped { .. } => "stepped",
-        Answer::Executed { .. } => "executed",
-        Answer::Committed { .. } => "committed",
-        Answer::Waiting { .. } => "waiting",
-        Answer::Value(_) => "value",
-        Answer::ToDo { .. } => "to-do",
-        Answer::Unconfirmed { .. } => "unconfirmed",
-        Answer::Started => "started",
-        Answer::Begun { .. } => "begun",
-        Answer::Entry { .. } => "entry",
-        _ => unreachable!("{answer:?} is no answer of these calls"),
-    };
-    ANSWERS.iter().position(|known| *known == word).expect("every answer has a word")
-}
-
 /// The last refusal of a call.
-const REFUSALS: usize = Refusal::QueriesUsedUp as usize;
+const REFUSALS: usize = Refusal::IdKept as usize;
 
 /// What happened so far.
-#[derive(Clone, Debug)]
+#[derive(Clone, Debug, Default)]
 pub struct Tally {
     /// How many calls of each kind were made.
     calls: [u64; NAMES.len()],
@@ -65,31 +45,16 @@ pub struct Tally {
     alone: [u64; RULES.len()],
 }
 
-impl Default for Tally {
-    /// Nothing has happened yet.
-    fn default() -> Tally {
-        Tally {
-            calls: [0; NAMES.len()],
-            states: [0; 3],
-            answers: [0; ANSWERS.len()],
-            refusals: [0; REFUSALS],
-            numbers: 0,
-            tried: 0,
-            sound: 0,
-            broken: [0; RULES.len()],
-            alone: [0; RULES.len()],
-        }
-    }
-}
-
 impl Tally {
     /// Counts a call, what it found and what it answered.
     pub fn count(&mut self, kind: usize, state: State, outcome: &Outcome) {
         self.calls[kind] += 1;
         self.states[state as usize] += 1;
-        match outcome.answer {
-            Ok(answer) => self.answers[place_of(answer)] += 1,
-            Err(refusal) => self.refusals[usize::from(refusal.number()) - 1] += 1,
+        let [what, number, ..] = outcome.answer.map(|number| number as usize);
+        if what == REFUSED as usize {
+            self.refusals[number - 1] += 1;
+        } else {
+            self.answers[what - 1] += 1;
         }
     }
 
@@ -113,28 +78,16 @@ impl Tally {
         (1..).zip(self.refusals).filter(|(number, _)| Refusal::numbered(*number).is_some())
     }
 
-    /// The answers that never occurred; a fresh start is the beginning of every stream.
-    pub fn missing_answers(&self) -> Vec<String> {
-        let answers = ANSWERS.iter().zip(self.answers).filter(|(_, count)| *count == 0);
-        answers.map(|(word, _)| word.to_string()).filter(|word| word != "started").collect()
-    }
-
     /// What should have occurred and never did.
     pub fn missing(&self) -> Vec<String> {
         let rules = RULES.iter().zip(self.alone).filter(|(_, count)| *count == 0);
+        let answers = ANSWERS.iter().zip(self.answers).filter(|(_, count)| *count == 0);
         let refusals = self.refusals().filter(|(_, count)| *count == 0);
         let rules = rules.map(|(rule, _)| format!("broken alone: {}", rule.words));
+        let answers = answers.map(|(word, _)| word.to_string());
         let refusals = refusals.map(|(number, _)| format!("refused {number}"));
         let numbers = (self.numbers < spots()).then(|| "each number damaged".to_string());
-        rules.chain(self.missing_answers()).chain(refusals).chain(numbers).collect()
-    }
-
-    /// Writes the counts of a run without damage.
-    pub fn write_traffic_to(&self, out: &mut impl Write) -> io::Result<()> {
-        writeln!(out, "{} calls, each as the model has it", self.made())?;
-        line(out, "calls", NAMES.iter().zip(self.calls))?;
-        line(out, "answers", ANSWERS.iter().zip(self.answers))?;
-        line(out, "refused", self.refusals())
+        rules.chain(answers).chain(refusals).chain(numbers).collect()
     }
 
     /// Writes the counts.

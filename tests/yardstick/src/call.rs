@@ -1,12 +1,9 @@
 //! One call with what it is given, and the two kinds of site that take it.
 
+use crate::answer::Numbers;
 use crate::raw::{CLASSES, Site};
 use model::event::{CONFIRM, Event, OFFER, READ, WORK};
 use model::record::{CELLS, RECORD_BYTES, number_at};
-use shpendorak::{Answer, Refusal};
-
-/// What a call answers, or why it refuses.
-pub type Answered = Result<Answer, Refusal>;
 
 /// The cells of all classes, one class after another.
 pub const RUN: usize = CLASSES * CELLS;
@@ -24,8 +21,6 @@ pub enum Call {
     Read { class: u64, cell: u64 },
     /// Looks how far an id is.
     Look { id: u64 },
-    /// Begins a query over the classes of a mask.
-    Query { mask: u16 },
 }
 
 impl Call {
@@ -60,8 +55,8 @@ pub struct Held {
 pub trait Takes {
     /// A fresh site with its cells cleared.
     fn fresh() -> Self;
-    /// Makes a call.
-    fn take(&mut self, call: &Call) -> Answered;
+    /// Makes a call and answers its numbers.
+    fn take(&mut self, call: &Call) -> Numbers;
     /// The site and cells as they are now.
     fn held(&mut self) -> &mut Held;
 }

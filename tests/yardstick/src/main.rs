@@ -7,8 +7,9 @@
 use std::env;
 use std::process::ExitCode;
 use std::time::{Duration, Instant};
+use yardstick::answer::Numbers;
 use yardstick::archive::Archive;
-use yardstick::call::{Answered, Call, Takes};
+use yardstick::call::{Call, Takes};
 use yardstick::load::{LOADS, Load, Script, kinds};
 use yardstick::plain::Plain;
 
@@ -26,7 +27,7 @@ struct Side<T> {
     /// The site that takes the calls.
     site: T,
     /// Every answer so far at the load.
-    answers: Vec<Answered>,
+    answers: Vec<Numbers>,
 }
 
 impl<T: Takes> Side<T> {
@@ -34,7 +35,7 @@ impl<T: Takes> Side<T> {
     fn at_load(script: &Script) -> Side<T> {
         let mut site = T::fresh();
         for call in &script.filling {
-            let _ = site.take(call);
+            site.take(call);
         }
         Side { site, answers: Vec::with_capacity(script.calls.len()) }
     }

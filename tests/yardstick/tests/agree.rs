@@ -3,15 +3,13 @@
 use model::event::Event;
 use model::random::Random;
 use model::stream::{KINDS, Stream};
-use shpendorak::Refusal;
+use yardstick::answer::{Answer, NOT_SOUND, WRONG_CELLS};
 use yardstick::archive::Archive;
-use yardstick::call::{Answered, Call, Held, Takes};
+use yardstick::call::{Call, Held, Takes};
 use yardstick::load::{LOADS, Script};
 use yardstick::plain::Plain;
 use yardstick::raw::*;
 
-/// The classes of the query that is begun last.
-const OPEN: u16 = 0b1100_0000_0000_0000;
 /// How many calls bring a site to the states that are spoiled.
 const LEAD: usize = 400;
 /// How many sites are spoiled by chance.
@@ -20,7 +18,7 @@ const SPOILED: usize = 30_000;
 const EVENTS: u64 = 3_000;
 
 /// One call of each kind.
-fn calls() -> [Call; 6] {
+fn calls() -> [Call; 5] {
     let record = [0; 64];
     [
         Call::Offer(record),
@@ -28,23 +26,21 @@ fn calls() -> [Call; 6] {
         Call::Work { class: 3 },
         Call::Read { class: 3, cell: 4 },
         Call::Look { id: 1 },
-        Call::Query { mask: 1 },
     ]
 }
 
-/// A site and its cells after a run at a load and a query.
+/// A site and its cells after a run at a load.
 fn held_at(load: usize, seed: u64) -> Held {
     let script = Script::new(LOADS[load], seed, LEAD);
     let mut site = Plain::fresh();
     for call in script.filling.iter().chain(&script.calls) {
-        let _ = site.take(call);
+        site.take(call);
     }
-    let _ = site.take(&Call::Query { mask: OPEN });
     site.0
 }
 
 /// Makes a call on both sides; what both answer and leave.
-fn both(held: &Held, call: &Call) -> (Answered, Held) {
+fn both(held: &Held, call: &Call) -> ([u64; NUMBERS], Held) {
     let (mut archive, mut plain) = (Archive(held.clone()), Plain(held.clone()));
     let (theirs, ours) = (archive.take(call), plain.take(call));
     assert_eq!(theirs, ours, "{call:?}");
@@ -52,11 +48,11 @@ fn both(held: &Held, call: &Call) -> (Answered, Held) {
     (ours, plain.0)
 }
 
-/// Both sides refuse every call alike and touch nothing.
-fn refused_untouched(held: &Held, refusal: Refusal) {
+/// Both sides refuse every call with a number and touch nothing.
+fn refused_untouched(held: &Held, number: u8) {
     for call in calls() {
         let (answer, left) = both(held, &call);
-        assert_eq!(answer, Err(refusal), "{call:?}");
+        assert_eq!(answer, Answer::Refused(number).numbers(), "{call:?}");
         assert!(left == *held, "{call:?} touches what it refuses");
     }
 }
@@ -64,18 +60,10 @@ fn refused_untouched(held: &Held, refusal: Refusal) {
 /// Spoils a site so that it is not sound.
 type Spoil = fn(&mut Held);
 
-/// The slot of the head of the first class whose head is a request.
+/// The slot of the head of the first class that has a queue.
 fn head(site: &mut Site) -> &mut Slot {
-    let headed = |&class: &usize| {
-        site.lens[class] > 0 && usize::from(site.queue[CLASS_PLACES * class]) < SLOTS
-    };
-    let class = (0..CLASSES).find(headed).expect("a request is queued");
-    &mut site.slots[usize::from(site.queue[CLASS_PLACES * class])]
-}
-
-/// An open query.
-fn open_query(site: &mut Site) -> &mut Query {
-    site.queries.iter_mut().find(|query| query.classes != 0).expect("a query is open")
+    let class = site.lens.iter().position(|&len| len > 0).expect("something is queued");
+    &mut site.slots[usize::from(site.queue[SLOTS * class])]
 }
 
 /// The id of a waiting request.
@@ -85,7 +73,7 @@ fn waiting(site: &Site) -> u32 {
 }
 
 /// A way to break each rule of a sound site.
-const SPOILS: [(&str, Spoil); 32] = [
+const SPOILS: [(&str, Spoil); 28] = [
     ("a free slot is all zero", |held| held.site.slots[127].ops[6].amount = 1),
     ("a free slot was never put back", |held| held.site.slots[127].backs = 1),
     ("a class is below 16", |held| head(&mut held.site).class = 16),
@@ -93,16 +81,12 @@ const SPOILS: [(&str, Spoil); 32] = [
     ("a request has at most 7", |held| head(&mut held.site).count = 8),
     ("a code is 1 to 4", |held| head(&mut held.site).ops[0].code = 5),
     ("a cell is below 64", |held| head(&mut held.site).ops[0].cell = 64),
-    ("no queue is longer than 136", |held| held.site.lens[0] = 137),
+    ("no queue is longer than 128", |held| held.site.lens[0] = 129),
     ("a used slot stands in a queue", |held| held.site.lens[0] -= 1),
     ("no free slot stands in a queue", |held| held.site.queue[0] = 127),
-    ("a place is a slot or a query", |held| held.site.queue[0] = 136),
-    ("an entry belongs to an open query", |held| *open_query(&mut held.site) = Query::default()),
-    ("an open query has its entries", |held| open_query(&mut held.site).classes = u16::MAX),
-    ("no query began later than now", |held| open_query(&mut held.site).begun = u32::MAX),
-    ("a free query is all zero", |held| held.site.queries[7].begun = 1),
+    ("a place is a slot", |held| held.site.queue[0] = 128),
     ("a slot stands once", |held| held.site.queue[1] = held.site.queue[0]),
-    ("a slot stands in its class", |held| held.site.queue.swap(0, CLASS_PLACES)),
+    ("a slot stands in its class", |held| held.site.queue.swap(0, SLOTS)),
     ("places past the end are zero", |held| held.site.queue[PLACES - 1] = 1),
     ("the map agrees", |held| held.site.low ^= 1),
     ("the map agrees in its high word", |held| held.site.high ^= 1 << 63),
@@ -127,7 +111,7 @@ fn each_broken_rule_is_refused_with_2() {
         let mut held = sound.clone();
         spoil(&mut held);
         assert!(held != sound, "{rule}: nothing is spoiled");
-        refused_untouched(&held, Refusal::Unsound);
+        refused_untouched(&held, NOT_SOUND);
     }
 }
 
@@ -139,13 +123,13 @@ fn equal_ids_and_equal_numbers_are_refused_with_2() {
     for pair in used.windows(2) {
         let mut held = sound.clone();
         held.site.slots[pair[0]].id = held.site.slots[pair[1]].id;
-        refused_untouched(&held, Refusal::Unsound);
+        refused_untouched(&held, NOT_SOUND);
     }
     assert!(numbered.len() > 1);
     for pair in numbered.windows(2) {
         let mut held = sound.clone();
         held.site.slots[pair[0]].number = held.site.slots[pair[1]].number;
-        refused_untouched(&held, Refusal::Unsound);
+        refused_untouched(&held, NOT_SOUND);
     }
 }
 
@@ -162,7 +146,7 @@ fn wrong_cells_are_refused_with_1() {
     ] {
         let mut held = held_at(0, 7);
         spoil(&mut held);
-        refused_untouched(&held, Refusal::WrongCells);
+        refused_untouched(&held, WRONG_CELLS);
     }
 }
 
@@ -170,7 +154,7 @@ fn wrong_cells_are_refused_with_1() {
 fn spoil_by_chance(random: &mut Random, held: &mut Held) {
     let (byte, number) = (random.byte() % 9, random.number() % 9);
     let slot = &mut held.site.slots[random.below(SLOTS)];
-    match random.below(17) {
+    match random.below(15) {
         0 => slot.id = number,
         1 => slot.class = byte,
         2 => slot.count = byte,
@@ -184,9 +168,7 @@ fn spoil_by_chance(random: &mut Random, held: &mut Held) {
         10 => held.site.queue[random.below(PLACES)] = byte,
         11 => held.site.lens[random.below(CLASSES)] = byte,
         12 => slot.backs = held.site.confirmations.wrapping_add(number).wrapping_sub(4).into(),
-        13 => held.site.queries[random.below(QUERIES)].classes ^= 1 << random.below(CLASSES),
-        14 => held.site.queries[random.below(QUERIES)].begun = number,
-        15 => held.site.confirmations = held.site.confirmations.wrapping_add(number),
+        13 => held.site.confirmations = held.site.confirmations.wrapping_add(number),
         _ => held.working[random.below(1_024)] = number,
     }
 }
@@ -200,7 +182,7 @@ fn sites_spoiled_by_chance_are_judged_alike() {
         let mut held = sites[turn % sites.len()].clone();
         spoil_by_chance(&mut random, &mut held);
         let (answer, _) = both(&held, &calls()[turn % calls().len()]);
-        let refused = answer == Err(Refusal::Unsound);
+        let refused = answer == Answer::Refused(NOT_SOUND).numbers();
         *(if refused { &mut unsound } else { &mut sound }) += 1;
     }
     assert!(sound > 100 && unsound > 100, "{sound} sound, {unsound} not");

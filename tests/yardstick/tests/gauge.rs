@@ -1,6 +1,6 @@
 //! The painted stack: calls made on it answer as elsewhere, and what they need is seen.
 
-use shpendorak::Answer;
+use yardstick::answer::Answer;
 use yardstick::archive::Archive;
 use yardstick::call::{Call, Held, RUN, Takes};
 use yardstick::load::{LOADS, Script};
@@ -32,7 +32,7 @@ fn fresh_on_the_painted_stack_starts_a_site() {
     let mut held: Held = Archive::fresh().0;
     held.committed.fill(7);
     let (answer, _) = Gauge::default().take(&mut held, &Asked::Fresh);
-    assert_eq!(answer, Ok(Answer::Started));
+    assert_eq!(answer, Answer::Started.numbers());
     assert_eq!(held.committed, [0; RUN]);
 }
 

@@ -31,38 +31,16 @@ loop-holds : tie.Need-loop-holds Inv-loop μ-loop Inv-loop2 μ-loop2
 loop-holds c = (search needs, stage-none _ _)
 
 loop-again : tie.Need-loop-again Inv-loop μ-loop Inv-loop2 μ-loop2
-loop-again c =
-    let args· = c .before .before .args in
-    let loop· = c .before .loop in (
-      search needs,
-      stage-more (args· .t1) (args· .t2) (loop· .g .numbers) (loop· .g .lines) (loop· .g .dones) (loop· .g .marks) (loop· .at)
-          (loop· .at) (loop· .inv .1) (omega arith) refl,
-    )
+loop-again c = let args· = c .before .before .args in let loop· = c .before .loop in (search needs, stage-more (args· .t1) (args· .t2) (loop· .g .numbers) (loop· .g .lines) (loop· .g .dones) (loop· .g .marks) (loop· .at) (loop· .at) (loop· .inv .1) (omega arith) refl)
 
 loop2-holds : tie.Need-loop2-holds Inv-loop μ-loop Inv-loop2 μ-loop2
 loop2-holds c = (search needs, (λ l h. h))
 
 loop2-again : tie.Need-loop2-again Inv-loop μ-loop Inv-loop2 μ-loop2
-loop2-again c =
-    let c₁ = c .before .before .before .before in
-    let loop2· = c .before .loop2 in (
-      search needs,
-      (λ l h. line-more l (c₁ .args .t2) (loop2· .g .numbers) (loop2· .g .lines) (loop2· .g .dones) (loop2· .g .marks) 128
-          (128 + loop2· .p) (loop2· .inv .1 l h) (loop2· .p) (omega arith) refl),
-    )
+loop2-again c = let loop2· = c .before .loop2 in (search needs, (λ l h. line-more l (c .before .before .before .before .args .t2) (loop2· .g .numbers) (loop2· .g .lines) (loop2· .g .dones) (loop2· .g .marks) 128 (128 + loop2· .p) (loop2· .inv .1 l h) (loop2· .p) (omega arith) refl))
 
 returns : tie.Need-returns Inv-loop μ-loop Inv-loop2 μ-loop2
-returns c =
-    let c₁ = c .before .before .before in
-    let c₂ = c₁ .before in
-    let args· = c₂ .args in
-    let loop· = c₁ .loop in
-    let loop2· = c .before .loop2 in
-    let n : length (args· .t1) ≡ slotCount = search needs in
-    let m : length (args· .t2) ≡ queryCount = search needs in
-    let e : loop· .at ≡ 128 = omega arith in
-    stage-all (args· .t1) (args· .t2) (loop2· .g .numbers) (loop2· .g .lines) (loop2· .g .dones) (loop2· .g .marks) 128 (128 + loop2· .p)
-    (loop2· .inv .1 (args· .t1) (rw e at (loop· .inv .1))) n m (omega arith) (omega arith)
+returns c = let args· = c .before .before .before .before .args in let loop· = c .before .before .before .loop in let loop2· = c .before .loop2 in let n : length (args· .t1) ≡ slotCount = search needs in let m : length (args· .t2) ≡ queryCount = search needs in let e : loop· .at ≡ 128 = omega arith in stage-all (args· .t1) (args· .t2) (loop2· .g .numbers) (loop2· .g .lines) (loop2· .g .dones) (loop2· .g .marks) 128 (128 + loop2· .p) (loop2· .inv .1 (args· .t1) (rw e at (loop· .inv .1))) n m (omega arith) (omega arith)
 
 pub gather-stages-spec : {M : Type 1} → statement M
 gather-stages-spec =

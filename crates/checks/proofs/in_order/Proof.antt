@@ -26,21 +26,14 @@ cast-len c = let h = c .before .before .before .pre .0 (c .before .before .loop 
 
 queue-ok-requires : tie.Need-queue-ok-requires Inv-loop μ-loop
 queue-ok-requires c κs =
-    let c₁ = c .before .before .before in
-    let pre· = c₁ .pre in
-    let loop· = c .before .before .loop in
-    let h = pre· .0 (loop· .c) (omega arith) in
-    (omega arith, pre· .1 (loop· .c) (omega arith))
+    let pre· = c .before .before .before .pre in
+    let loop· = c .before .before .loop in let h = pre· .0 (loop· .c) (omega arith) in (omega arith, pre· .1 (loop· .c) (omega arith))
 
 returns : tie.Need-returns Inv-loop μ-loop
-returns c =
-    let c₁ = c .before .before .before .before in
-    decides-false (λ h. c .before .queue-ok .ensures .no (not-true _ (c .if1 .taken)) (h (c₁ .loop .c) (omega arith)))
+returns c = decides-false (λ h. c .before .queue-ok .ensures .no (not-true _ (c .if1 .taken)) (h (c .before .before .before .before .loop .c) (omega arith)))
 
 loop-again : tie.Need-loop-again Inv-loop μ-loop
-loop-again c =
-    let c₁ = c .before .before .before .before in
-    (search needs, below-more _ _ (c₁ .loop .inv .1) (c .before .queue-ok .ensures .yes (not-false _ (c .if1 .left))))
+loop-again c = (search needs, below-more _ _ (c .before .before .before .before .loop .inv .1) (c .before .queue-ok .ensures .yes (not-false _ (c .if1 .left))))
 
 returns-2 : tie.Need-returns-2 Inv-loop μ-loop
 returns-2 c = decides-true (λ k l. c .before .loop .inv .1 k (omega arith))

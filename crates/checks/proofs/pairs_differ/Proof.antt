@@ -30,21 +30,18 @@ pairs-holds c = (search needs, below-none _, below-none _)
 
 loop-holds : tie.Need-loop-holds Inv-loop μ-loop Inv-pairs μ-pairs
 loop-holds c =
-    let c₁ = c .before .before .before .before .before in
     let if2· = c .if2 in (
       ⊎-elim (λ w. omega (arith, w .1)) (λ w. omega (arith, w .1)) (if2· .came),
       ⊎-elim (λ w. omega (arith, w .1)) (λ w. omega (arith, w .1)) (if2· .came),
       (λ l z. ⊎-elim (λ w. omega (arith, w .1)) (λ w. w .0 .left z) (if2· .came)),
       (λ b l m e. ⊎-elim (λ w. w .0 .taken) (λ w. absurd (omega (arith, w .1))) (if2· .came)),
-      (λ b l m e. ⊎-elim (λ w. c₁ .pre _ (w .0 .taken)) (λ w. absurd (omega (arith, w .1))) (if2· .came)),
+      (λ b l m e. ⊎-elim (λ w. c .before .before .before .before .before .pre _ (w .0 .taken)) (λ w. absurd (omega (arith, w .1))) (if2· .came)),
     )
 
 loop-again : tie.Need-loop-again Inv-loop μ-loop Inv-pairs μ-pairs
 loop-again c =
-    let c₁ = c .before .before .before .before .before .before in
-    let c₂ = c₁ .before .before .before .before .before .before in
-    let args· = c₂ .args in
-    let inv· = c₁ .loop .inv in
+    let args· = c .before .before .before .before .before .before .before .before .before .before .before .before .args in
+    let inv· = c .before .before .before .before .before .before .loop .inv in
     let used· = inv· .2 (omega arith) in (
       omega arith,
       omega arith,
@@ -55,10 +52,8 @@ loop-again c =
 
 pairs-again : tie.Need-pairs-again Inv-loop μ-loop Inv-pairs μ-pairs
 pairs-again c =
-    let c₁ = c .before .before .before .before .before .before in
-    let c₂ = c₁ .before in
-    let args· = c₂ .args in
-    let passed· = c₁ .pairs .inv in
+    let args· = c .before .before .before .before .before .before .before .args in
+    let passed· = c .before .before .before .before .before .before .pairs .inv in
     let clear· = c .before .loop .inv in (
       omega arith,
       out-more (nth (args· .ids .now)) _ _ _ (passed· .1) (omega arith) (clear· .3),
@@ -76,14 +71,10 @@ returns c =
 
 returns-2 : tie.Need-returns-2 Inv-loop μ-loop Inv-pairs μ-pairs
 returns-2 c =
-    let c₁ = c .before .before .before .before in
-    let loop· = c₁ .loop in
-    decides-false (λ d. loop· .inv .2 (omega arith) (d .ids _ _ (loop· .inv .0) (omega arith) (c .if3 .taken)))
+    let loop· = c .before .before .before .before .loop in decides-false (λ d. loop· .inv .2 (omega arith) (d .ids _ _ (loop· .inv .0) (omega arith) (c .if3 .taken)))
 
 returns-3 : tie.Need-returns-3 Inv-loop μ-loop Inv-pairs μ-pairs
-returns-3 c =
-    let c₁ = c .before .before .before .before .before .before .before in
-    decides-false (λ d. c .if5 .taken (d .numbers _ _ (c₁ .loop .inv .0) (omega arith) (c .before .if4 .taken)))
+returns-3 c = decides-false (λ d. c .if5 .taken (d .numbers _ _ (c .before .before .before .before .before .before .before .loop .inv .0) (omega arith) (c .before .if4 .taken)))
 
 pub pairs-differ-spec : {M : Type 1} → statement M
 pairs-differ-spec =

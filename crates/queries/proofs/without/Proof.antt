@@ -8,9 +8,7 @@ use Rattle.queries.proofs.without.Statement.{statement}
 use Rattle.queries.proofs.without.Tie as tie
 
 returns : tie.Need-returns
-returns c =
-    let args· = c .before .before .args in
-    (subst (λ (m : ℕ). Shrunk (args· .q .classes) (args· .c) m) (c .if1 .taken) (c .before .without-class .ensures), refl)
+returns c = let args· = c .before .before .args in (subst (λ (m : ℕ). Shrunk (args· .q .classes) (args· .c) m) (c .if1 .taken) (c .before .without-class .ensures), refl)
 
 returns-2 : tie.Need-returns-2
 returns-2 c = (c .before .without-class .ensures, rw (ne-eqb _ 0 (c .if1 .left)))

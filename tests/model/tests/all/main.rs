@@ -9,7 +9,6 @@ mod event;
 mod help;
 mod kept;
 mod ledger;
-mod queries;
 mod record;
 mod refusals;
 mod sound;

@@ -27,9 +27,7 @@ returns : tie.Need-returns Inv-loop μ-loop
 returns c = decides-false (λ h. c .before .names-none .ensures .no (not-true _ (c .if1 .taken)) (h (c .before .before .before .before .loop .p)))
 
 loop-again : tie.Need-loop-again Inv-loop μ-loop
-loop-again c =
-    let c₁ = c .before .before .before .before in
-    (search needs, below-more _ _ (c₁ .loop .inv .1) (c .before .names-none .ensures .yes (not-false _ (c .if1 .left))))
+loop-again c = (search needs, below-more _ _ (c .before .before .before .before .loop .inv .1) (c .before .names-none .ensures .yes (not-false _ (c .if1 .left))))
 
 returns-2 : tie.Need-returns-2 Inv-loop μ-loop
 returns-2 c =

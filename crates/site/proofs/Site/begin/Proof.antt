@@ -1,51 +1,40 @@
 -- `Site::begin` meets its contract: each turn puts a waiting head back and lets the entry in before the waiting. Assumes nothing.
 use borrow.Author.Needs.{needs}
 use Prim.Native.Nat.{ℕ, _+_, _-_, _<_, _≤_, _^_}
-use mathlib.Core.Path.{_≡_, refl, sym, ap, subst, _∙_}
-use mathlib.Core.Logic.{inl, inr, ⊎-elim}
+use mathlib.Core.Path.{_≡_, refl, sym, ap, _∙_}
 use mathlib.Core.Bool.{true}
-use mathlib.Core.List.{List}
 use native.Mathlib.Omega.{arith}
 use denote.Ref.{now}
 use Rattle.plain.specs.Site.{named}
 use Rattle.site.specs.Held.{store, stateOf}
-use Rattle.site.specs.declared.Site.{Site}
 use Rattle.site.proofs.Shape.{shaped}
+use Rattle.site.proofs.Querying.{carried, index, at-first, at-last, room, fits, may-back, Put, put-none, put-head, turned}
+use mathlib.Core.Logic.{inl, inr, ⊎-elim}
+use mathlib.Core.List.{List}
+use Rattle.site.specs.declared.Site.{Site}
 use Rattle.store.specs.Steps.{withSlot, headSlot}
-use Rattle.store.proofs.Begins.{counted, start, begun-is}
+use Rattle.store.proofs.Begins.{counted}
 use Rattle.store.proofs.Commit.{copied, uncopied}
-use Rattle.store.proofs.Turns.{Going, Put, room-here, to-fits, may-back, put-none, put-head, skipped, turned}
+use Rattle.store.proofs.Turns.{Within, skipped}
 use Rattle.site.proofs.Site.begin.Statement.{statement}
 use Rattle.site.proofs.Site.begin.Tie as tie
 
 abbrev Inv-loop : tie.InvT-loop
 Inv-loop committed working₀ mask self₀ firsts p c₀ working self c =
-    (c ≤ 16) × Going (store self₀) (store self) committed working₀ working mask p (self₀ .confirmations) c firsts
+    (c ≤ 16) × Within (store self₀) (store self) committed working₀ working mask p (self₀ .confirmations) c
 
 abbrev μ-loop : tie.MeasureT-loop
 μ-loop committed working₀ mask self₀ firsts p c₀ working self c = 16 - c
-
--- what holds of two values holds of those equal to them
-carried : {A B : Type 0} (W : A → B → Type 0) {s s′ : A} {v v′ : B} → s ≡ s′ → v ≡ v′ → W s′ v′ → W s v
-carried {A} W {s′ = s′} {v = v} e f h = subst (λ (a : A). W a v) (sym e) (subst (W s′) (sym f) h)
 
 add-self : tie.Need-add-self Inv-loop μ-loop
 add-self c = record { fits = omega (arith, c .before .before .before .before .pre .0 .more) }
 
 loop-holds : tie.Need-loop-holds Inv-loop μ-loop
-loop-holds c =
-    let c₁ = c .before .before .before .before in
-    let pre· = c₁ .pre in
-    let args· = c₁ .args in
-    let good· = c₁ .good in
-    let lowest-free· = c .lowest-free in
-    let f· = pre· .0 in
-    let small· : args· .mask < 2 ^ 16 = search needs in (
-      omega arith,
-      start (stateOf (args· .t1) (now (args· .committed)) (now (args· .working))) (shaped (args· .t1) _ (good· .0)) (f· .right)
-          (f· .sound) (args· .mask) small· (f· .some) (f· .free) (f· .more) (args· .t5) (lowest-free· .result) (lowest-free· .ensures) (omega
-          (arith, good· .0)) (pre· .1),
-    )
+loop-holds c = let args· = c .before .before .before .before .args in let good· = c .before .before .before .before .good in let pre· = c .before .before .before .before .pre in let lowest-free· = c .lowest-free in
+    let x· = stateOf (args· .t1) (now (args· .committed)) (now (args· .working)) in
+    let w· = shaped (args· .t1) _ (good· .0) in
+    let small· : args· .mask < 2 ^ 16 = search needs in
+    (omega arith, at-first x· w· (args· .mask) small· (args· .t5) (pre· .0) (pre· .1) (omega (arith, good· .0)) (lowest-free· .result) (lowest-free· .ensures))
 
 names-requires : tie.Need-names-requires Inv-loop μ-loop
 names-requires c κs = omega arith
@@ -60,183 +49,154 @@ element-copy-out-len : tie.Need-element-copy-out-len Inv-loop μ-loop
 element-copy-out-len c = let l· : c .before .before .before .loop .c < 16 = omega arith in search needs
 
 copy-class-requires : tie.Need-copy-class-requires Inv-loop μ-loop
-copy-class-requires c κs =
-    let c₁ = c .before .before .before .before .before .before .before in
-    let loop· = c₁ .loop in
-    (loop· .inv .1 .cells, loop· .inv .1 .right, omega arith)
+copy-class-requires c κs = (c .before .before .before .before .before .before .before .loop .inv .1 .cells, c .before .before .before .before .before .before .before .before .before .before .before .before .pre .0 .right .0, omega arith)
 
 mul-i : tie.Need-mul-i Inv-loop μ-loop
 mul-i c = let l· : c .before .before .before .before .before .before .before .before .before .before .loop .c < 16 = omega arith in search needs
 
 element-copy-out-i : tie.Need-element-copy-out-i Inv-loop μ-loop
-element-copy-out-i c =
-    let c₁ = c .before .before .before .before .before .before .before .before .before .before in
-    let l· : c₁ .loop .c < 16 = omega arith in
-    search needs
+element-copy-out-i c = let l· : c .before .before .before .before .before .before .before .before .before .before .loop .c < 16 = omega arith in search needs
 
 cast-i : tie.Need-cast-i Inv-loop μ-loop
-cast-i c =
-    let c₁ = c .before .before .before .before .before in
-    let c₂ = c₁ .before in
-    let c₃ = c₂ .before .before in
-    let c₄ = c₃ .before in
-    let c₅ = c₄ .before in
-    let c₆ = c₅ .before in
-    record {
-      fits = omega (
-        arith,
-        may-back (c₆ .loop .inv .1) (omega (arith, c₅ .loop-test .taken)) (sym (c₄ .names .ensures) ∙ c₃ .if1 .taken)
-            (c₂ .if2 .taken) (c₁ .if3 .taken) .request,
-      );
-    }
+cast-i c = let args· = c .before .before .before .before .before .before .before .before .before .before .before .before .before .before .before .before .args in let good· = c .before .before .before .before .before .before .before .before .before .before .before .before .before .before .before .before .good in let loop· = c .before .before .before .before .before .before .before .before .before .before .before .loop in let pre· = c .before .before .before .before .before .before .before .before .before .before .before .before .before .before .before .before .pre in let lowest-free· = c .before .before .before .before .before .before .before .before .before .before .before .before .lowest-free in
+    let x· = stateOf (args· .t1) (now (args· .committed)) (now (args· .working)) in
+    let w· = shaped (args· .t1) _ (good· .0) in
+    let small· : args· .mask < 2 ^ 16 = search needs in
+    let here· : named (args· .mask) (loop· .c) ≡ true = sym (c .before .before .before .before .before .before .before .before .before .names .ensures) ∙ c .before .before .before .before .before .before .before .before .if1 .taken in
+    let h· = may-back x· w· (args· .mask) small· (args· .t5) (pre· .0) (pre· .1) (omega (arith, good· .0)) (lowest-free· .result) (lowest-free· .ensures) (store (loop· .self)) (loop· .working) (loop· .c) (omega (arith, c .before .before .before .before .before .before .before .before .before .before .loop-test .taken)) (loop· .inv .1) here· (c .before .before .before .before .before .before .if2 .taken) (c .before .before .before .before .before .if3 .taken) .request in
+    record { fits = omega arith }
 
 mul-v : tie.Need-mul-v Inv-loop μ-loop
-mul-v c =
-    let c₁ = c .before .before .before .before .before in
-    let c₂ = c₁ .before in
-    let c₃ = c₂ .before .before in
-    let c₄ = c₃ .before in
-    let c₅ = c₄ .before in
-    let c₆ = c₅ .before in
-    record {
-      fits = omega (
-        arith,
-        may-back (c₆ .loop .inv .1) (omega (arith, c₅ .loop-test .taken)) (sym (c₄ .names .ensures) ∙ c₃ .if1 .taken)
-            (c₂ .if2 .taken) (c₁ .if3 .taken) .request,
-      );
-    }
+mul-v c = let args· = c .before .before .before .before .before .before .before .before .before .before .before .before .before .before .before .before .args in let good· = c .before .before .before .before .before .before .before .before .before .before .before .before .before .before .before .before .good in let loop· = c .before .before .before .before .before .before .before .before .before .before .before .loop in let pre· = c .before .before .before .before .before .before .before .before .before .before .before .before .before .before .before .before .pre in let lowest-free· = c .before .before .before .before .before .before .before .before .before .before .before .before .lowest-free in
+    let x· = stateOf (args· .t1) (now (args· .committed)) (now (args· .working)) in
+    let w· = shaped (args· .t1) _ (good· .0) in
+    let small· : args· .mask < 2 ^ 16 = search needs in
+    let here· : named (args· .mask) (loop· .c) ≡ true = sym (c .before .before .before .before .before .before .before .before .before .names .ensures) ∙ c .before .before .before .before .before .before .before .before .if1 .taken in
+    let h· = may-back x· w· (args· .mask) small· (args· .t5) (pre· .0) (pre· .1) (omega (arith, good· .0)) (lowest-free· .result) (lowest-free· .ensures) (store (loop· .self)) (loop· .working) (loop· .c) (omega (arith, c .before .before .before .before .before .before .before .before .before .before .loop-test .taken)) (loop· .inv .1) here· (c .before .before .before .before .before .before .if2 .taken) (c .before .before .before .before .before .if3 .taken) .request in
+    record { fits = omega arith }
 
 element-copy-out-v : tie.Need-element-copy-out-v Inv-loop μ-loop
-element-copy-out-v c =
-    let c₁ = c .before .before .before .before .before in
-    let c₂ = c₁ .before in
-    let c₃ = c₂ .before .before in
-    let c₄ = c₃ .before in
-    let c₅ = c₄ .before in
-    let c₆ = c₅ .before in
-    may-back (c₆ .loop .inv .1) (omega (arith, c₅ .loop-test .taken)) (sym (c₄ .names .ensures) ∙ c₃ .if1 .taken) (c₂ .if2 .taken)
-    (c₁ .if3 .taken) .request
+element-copy-out-v c = let args· = c .before .before .before .before .before .before .before .before .before .before .before .before .before .before .before .before .args in let good· = c .before .before .before .before .before .before .before .before .before .before .before .before .before .before .before .before .good in let loop· = c .before .before .before .before .before .before .before .before .before .before .before .loop in let pre· = c .before .before .before .before .before .before .before .before .before .before .before .before .before .before .before .before .pre in let lowest-free· = c .before .before .before .before .before .before .before .before .before .before .before .before .lowest-free in
+    let x· = stateOf (args· .t1) (now (args· .committed)) (now (args· .working)) in
+    let w· = shaped (args· .t1) _ (good· .0) in
+    let small· : args· .mask < 2 ^ 16 = search needs in
+    let here· : named (args· .mask) (loop· .c) ≡ true = sym (c .before .before .before .before .before .before .before .before .before .names .ensures) ∙ c .before .before .before .before .before .before .before .before .if1 .taken in
+    may-back x· w· (args· .mask) small· (args· .t5) (pre· .0) (pre· .1) (omega (arith, good· .0)) (lowest-free· .result) (lowest-free· .ensures) (store (loop· .self)) (loop· .working) (loop· .c) (omega (arith, c .before .before .before .before .before .before .before .before .before .before .loop-test .taken)) (loop· .inv .1) here· (c .before .before .before .before .before .before .if2 .taken) (c .before .before .before .before .before .if3 .taken) .request
 
 backed-requires : tie.Need-backed-requires Inv-loop μ-loop
-backed-requires c κs =
-    let c₁ = c .before .before .before .before .before .before in
-    let c₂ = c₁ .before in
-    let c₃ = c₂ .before .before in
-    let c₄ = c₃ .before in
-    let c₅ = c₄ .before in
-    let c₆ = c₅ .before in
-    may-back (c₆ .loop .inv .1) (omega (arith, c₅ .loop-test .taken)) (sym (c₄ .names .ensures) ∙ c₃ .if1 .taken) (c₂ .if2 .taken)
-    (c₁ .if3 .taken) .fits
+backed-requires c κs = let args· = c .before .before .before .before .before .before .before .before .before .before .before .before .before .before .before .before .before .args in let good· = c .before .before .before .before .before .before .before .before .before .before .before .before .before .before .before .before .before .good in let loop· = c .before .before .before .before .before .before .before .before .before .before .before .before .loop in let pre· = c .before .before .before .before .before .before .before .before .before .before .before .before .before .before .before .before .before .pre in let lowest-free· = c .before .before .before .before .before .before .before .before .before .before .before .before .before .lowest-free in
+    let x· = stateOf (args· .t1) (now (args· .committed)) (now (args· .working)) in
+    let w· = shaped (args· .t1) _ (good· .0) in
+    let small· : args· .mask < 2 ^ 16 = search needs in
+    let here· : named (args· .mask) (loop· .c) ≡ true = sym (c .before .before .before .before .before .before .before .before .before .before .names .ensures) ∙ c .before .before .before .before .before .before .before .before .before .if1 .taken in
+    may-back x· w· (args· .mask) small· (args· .t5) (pre· .0) (pre· .1) (omega (arith, good· .0)) (lowest-free· .result) (lowest-free· .ensures) (store (loop· .self)) (loop· .working) (loop· .c) (omega (arith, c .before .before .before .before .before .before .before .before .before .before .before .loop-test .taken)) (loop· .inv .1) here· (c .before .before .before .before .before .before .before .if2 .taken) (c .before .before .before .before .before .before .if3 .taken) .fits
 
 mul-t33 : tie.Need-mul-t33 Inv-loop μ-loop
-mul-t33 c =
-    let c₁ = c .before .before .before .before .before .before .before in
-    let c₂ = c₁ .before in
-    let c₃ = c₂ .before .before in
-    let c₄ = c₃ .before in
-    let c₅ = c₄ .before in
-    let c₆ = c₅ .before in
-    record {
-      fits = omega (
-        arith,
-        may-back (c₆ .loop .inv .1) (omega (arith, c₅ .loop-test .taken)) (sym (c₄ .names .ensures) ∙ c₃ .if1 .taken)
-            (c₂ .if2 .taken) (c₁ .if3 .taken) .request,
-      );
-    }
+mul-t33 c = let args· = c .before .before .before .before .before .before .before .before .before .before .before .before .before .before .before .before .before .before .args in let good· = c .before .before .before .before .before .before .before .before .before .before .before .before .before .before .before .before .before .before .good in let loop· = c .before .before .before .before .before .before .before .before .before .before .before .before .before .loop in let pre· = c .before .before .before .before .before .before .before .before .before .before .before .before .before .before .before .before .before .before .pre in let lowest-free· = c .before .before .before .before .before .before .before .before .before .before .before .before .before .before .lowest-free in
+    let x· = stateOf (args· .t1) (now (args· .committed)) (now (args· .working)) in
+    let w· = shaped (args· .t1) _ (good· .0) in
+    let small· : args· .mask < 2 ^ 16 = search needs in
+    let here· : named (args· .mask) (loop· .c) ≡ true = sym (c .before .before .before .before .before .before .before .before .before .before .before .names .ensures) ∙ c .before .before .before .before .before .before .before .before .before .before .if1 .taken in
+    let h· = may-back x· w· (args· .mask) small· (args· .t5) (pre· .0) (pre· .1) (omega (arith, good· .0)) (lowest-free· .result) (lowest-free· .ensures) (store (loop· .self)) (loop· .working) (loop· .c) (omega (arith, c .before .before .before .before .before .before .before .before .before .before .before .before .loop-test .taken)) (loop· .inv .1) here· (c .before .before .before .before .before .before .before .before .if2 .taken) (c .before .before .before .before .before .before .before .if3 .taken) .request in
+    record { fits = omega arith }
 
 element-set-from-self : tie.Need-element-set-from-self Inv-loop μ-loop
-element-set-from-self c =
-    let c₁ = c .before .before .before .before .before .before .before in
-    let c₂ = c₁ .before in
-    let c₃ = c₂ .before .before in
-    let c₄ = c₃ .before in
-    let c₅ = c₄ .before in
-    let c₆ = c₅ .before in
-    may-back (c₆ .loop .inv .1) (omega (arith, c₅ .loop-test .taken)) (sym (c₄ .names .ensures) ∙ c₃ .if1 .taken) (c₂ .if2 .taken)
-    (c₁ .if3 .taken) .request
+element-set-from-self c = let args· = c .before .before .before .before .before .before .before .before .before .before .before .before .before .before .before .before .before .before .args in let good· = c .before .before .before .before .before .before .before .before .before .before .before .before .before .before .before .before .before .before .good in let loop· = c .before .before .before .before .before .before .before .before .before .before .before .before .before .loop in let pre· = c .before .before .before .before .before .before .before .before .before .before .before .before .before .before .before .before .before .before .pre in let lowest-free· = c .before .before .before .before .before .before .before .before .before .before .before .before .before .before .lowest-free in
+    let x· = stateOf (args· .t1) (now (args· .committed)) (now (args· .working)) in
+    let w· = shaped (args· .t1) _ (good· .0) in
+    let small· : args· .mask < 2 ^ 16 = search needs in
+    let here· : named (args· .mask) (loop· .c) ≡ true = sym (c .before .before .before .before .before .before .before .before .before .before .before .names .ensures) ∙ c .before .before .before .before .before .before .before .before .before .before .if1 .taken in
+    may-back x· w· (args· .mask) small· (args· .t5) (pre· .0) (pre· .1) (omega (arith, good· .0)) (lowest-free· .result) (lowest-free· .ensures) (store (loop· .self)) (loop· .working) (loop· .c) (omega (arith, c .before .before .before .before .before .before .before .before .before .before .before .before .loop-test .taken)) (loop· .inv .1) here· (c .before .before .before .before .before .before .before .before .if2 .taken) (c .before .before .before .before .before .before .before .if3 .taken) .request
 
 cast-self : tie.Need-cast-self Inv-loop μ-loop
-cast-self c = record { fits = omega (arith, c .before .before .before .before .before .loop .inv .1 .index) }
+cast-self c = let args· = c .before .before .before .before .before .before .before .before .before .before .args in let good· = c .before .before .before .before .before .before .before .before .before .before .good in let pre· = c .before .before .before .before .before .before .before .before .before .before .pre in let lowest-free· = c .before .before .before .before .before .before .lowest-free in
+    let x· = stateOf (args· .t1) (now (args· .committed)) (now (args· .working)) in
+    let w· = shaped (args· .t1) _ (good· .0) in
+    let small· : args· .mask < 2 ^ 16 = search needs in
+    let i· = index x· w· (args· .mask) small· (args· .t5) (pre· .0) (pre· .1) (omega (arith, good· .0)) (lowest-free· .result) (lowest-free· .ensures) in
+    record { fits = omega arith }
 
 add-self-2 : tie.Need-add-self-2 Inv-loop μ-loop
-add-self-2 c = record { fits = omega (arith, c .before .before .before .before .before .loop .inv .1 .index) }
+add-self-2 c = let args· = c .before .before .before .before .before .before .before .before .before .before .args in let good· = c .before .before .before .before .before .before .before .before .before .before .good in let pre· = c .before .before .before .before .before .before .before .before .before .before .pre in let lowest-free· = c .before .before .before .before .before .before .lowest-free in
+    let x· = stateOf (args· .t1) (now (args· .committed)) (now (args· .working)) in
+    let w· = shaped (args· .t1) _ (good· .0) in
+    let small· : args· .mask < 2 ^ 16 = search needs in
+    let i· = index x· w· (args· .mask) small· (args· .t5) (pre· .0) (pre· .1) (omega (arith, good· .0)) (lowest-free· .result) (lowest-free· .ensures) in
+    record { fits = omega arith }
 
 mul-self : tie.Need-mul-self Inv-loop μ-loop
 mul-self c = let l· : c .before .before .before .before .before .loop .c < 16 = omega arith in search needs
 
 cast-self-2 : tie.Need-cast-self-2 Inv-loop μ-loop
-cast-self-2 c =
-    let c₁ = c .before .before .before in
-    let c₂ = c₁ .before in
-    let c₃ = c₂ .before in
-    record {
-      fits = omega (
-        arith,
-        room-here (c₃ .loop .inv .1) (omega (arith, c₂ .loop-test .taken)) (sym (c₁ .names .ensures) ∙
-            c .before .before .if1 .taken),
-      );
-    }
+cast-self-2 c = let args· = c .before .before .before .before .before .before .before .before .before .before .args in let good· = c .before .before .before .before .before .before .before .before .before .before .good in let loop· = c .before .before .before .before .before .loop in let pre· = c .before .before .before .before .before .before .before .before .before .before .pre in let lowest-free· = c .before .before .before .before .before .before .lowest-free in
+    let x· = stateOf (args· .t1) (now (args· .committed)) (now (args· .working)) in
+    let w· = shaped (args· .t1) _ (good· .0) in
+    let small· : args· .mask < 2 ^ 16 = search needs in
+    let here· : named (args· .mask) (loop· .c) ≡ true = sym (c .before .before .before .names .ensures) ∙ c .before .before .if1 .taken in
+    let r· = room x· w· (args· .mask) small· (args· .t5) (pre· .0) (pre· .1) (omega (arith, good· .0)) (lowest-free· .result) (lowest-free· .ensures) (store (loop· .self)) (loop· .working) (loop· .c) (omega (arith, c .before .before .before .before .loop-test .taken)) (loop· .inv .1) here· in
+    record { fits = omega arith }
 
 add-self-3 : tie.Need-add-self-3 Inv-loop μ-loop
-add-self-3 c =
-    let c₁ = c .before .before .before in
-    let c₂ = c₁ .before in
-    let c₃ = c₂ .before in
-    record {
-      fits = omega (
-        arith,
-        room-here (c₃ .loop .inv .1) (omega (arith, c₂ .loop-test .taken)) (sym (c₁ .names .ensures) ∙
-            c .before .before .if1 .taken),
-      );
-    }
+add-self-3 c = let args· = c .before .before .before .before .before .before .before .before .before .before .args in let good· = c .before .before .before .before .before .before .before .before .before .before .good in let loop· = c .before .before .before .before .before .loop in let pre· = c .before .before .before .before .before .before .before .before .before .before .pre in let lowest-free· = c .before .before .before .before .before .before .lowest-free in
+    let x· = stateOf (args· .t1) (now (args· .committed)) (now (args· .working)) in
+    let w· = shaped (args· .t1) _ (good· .0) in
+    let small· : args· .mask < 2 ^ 16 = search needs in
+    let here· : named (args· .mask) (loop· .c) ≡ true = sym (c .before .before .before .names .ensures) ∙ c .before .before .if1 .taken in
+    let r· = room x· w· (args· .mask) small· (args· .t5) (pre· .0) (pre· .1) (omega (arith, good· .0)) (lowest-free· .result) (lowest-free· .ensures) (store (loop· .self)) (loop· .working) (loop· .c) (omega (arith, c .before .before .before .before .loop-test .taken)) (loop· .inv .1) here· in
+    record { fits = omega arith }
 
 element-write-self : tie.Need-element-write-self Inv-loop μ-loop
-element-write-self c =
-    let c₁ = c .before .before .before in
-    let c₂ = c₁ .before in
-    let c₃ = c₂ .before in
-    omega (arith, room-here (c₃ .loop .inv .1) (omega (arith, c₂ .loop-test .taken)) (sym (c₁ .names .ensures) ∙ c .before .before .if1 .taken))
+element-write-self c = let args· = c .before .before .before .before .before .before .before .before .before .before .args in let good· = c .before .before .before .before .before .before .before .before .before .before .good in let loop· = c .before .before .before .before .before .loop in let pre· = c .before .before .before .before .before .before .before .before .before .before .pre in let lowest-free· = c .before .before .before .before .before .before .lowest-free in
+    let x· = stateOf (args· .t1) (now (args· .committed)) (now (args· .working)) in
+    let w· = shaped (args· .t1) _ (good· .0) in
+    let small· : args· .mask < 2 ^ 16 = search needs in
+    let here· : named (args· .mask) (loop· .c) ≡ true = sym (c .before .before .before .names .ensures) ∙ c .before .before .if1 .taken in
+    let r· = room x· w· (args· .mask) small· (args· .t5) (pre· .0) (pre· .1) (omega (arith, good· .0)) (lowest-free· .result) (lowest-free· .ensures) (store (loop· .self)) (loop· .working) (loop· .c) (omega (arith, c .before .before .before .before .loop-test .taken)) (loop· .inv .1) here· in
+    omega arith
 
 add-self-4 : tie.Need-add-self-4 Inv-loop μ-loop
-add-self-4 c =
-    let c₁ = c .before .before .before in
-    let c₂ = c₁ .before in
-    let c₃ = c₂ .before in
-    record {
-      fits = omega (
-        arith,
-        room-here (c₃ .loop .inv .1) (omega (arith, c₂ .loop-test .taken)) (sym (c₁ .names .ensures) ∙
-            c .before .before .if1 .taken),
-      );
-    }
+add-self-4 c = let args· = c .before .before .before .before .before .before .before .before .before .before .args in let good· = c .before .before .before .before .before .before .before .before .before .before .good in let loop· = c .before .before .before .before .before .loop in let pre· = c .before .before .before .before .before .before .before .before .before .before .pre in let lowest-free· = c .before .before .before .before .before .before .lowest-free in
+    let x· = stateOf (args· .t1) (now (args· .committed)) (now (args· .working)) in
+    let w· = shaped (args· .t1) _ (good· .0) in
+    let small· : args· .mask < 2 ^ 16 = search needs in
+    let here· : named (args· .mask) (loop· .c) ≡ true = sym (c .before .before .before .names .ensures) ∙ c .before .before .if1 .taken in
+    let r· = room x· w· (args· .mask) small· (args· .t5) (pre· .0) (pre· .1) (omega (arith, good· .0)) (lowest-free· .result) (lowest-free· .ensures) (store (loop· .self)) (loop· .working) (loop· .c) (omega (arith, c .before .before .before .before .loop-test .taken)) (loop· .inv .1) here· in
+    record { fits = omega arith }
 
 element-write-self-2 : tie.Need-element-write-self-2 Inv-loop μ-loop
 element-write-self-2 c = let l· : c .before .before .before .before .before .loop .c < 16 = omega arith in search needs
 
 cast-move-forward : tie.Need-cast-move-forward Inv-loop μ-loop
-cast-move-forward c =
-    let c₁ = c .before .before .before in
-    let c₂ = c₁ .before in
-    let c₃ = c₂ .before in
-    let c₄ = c₃ .before in
-    record { fits = omega (arith, room-here (c₄ .loop .inv .1) (omega (arith, c₃ .loop-test .taken)) (sym (c₂ .names .ensures) ∙ c₁ .if1 .taken)) }
+cast-move-forward c = let args· = c .before .before .before .before .before .before .before .before .before .before .before .args in let good· = c .before .before .before .before .before .before .before .before .before .before .before .good in let loop· = c .before .before .before .before .before .before .loop in let pre· = c .before .before .before .before .before .before .before .before .before .before .before .pre in let lowest-free· = c .before .before .before .before .before .before .before .lowest-free in
+    let x· = stateOf (args· .t1) (now (args· .committed)) (now (args· .working)) in
+    let w· = shaped (args· .t1) _ (good· .0) in
+    let small· : args· .mask < 2 ^ 16 = search needs in
+    let here· : named (args· .mask) (loop· .c) ≡ true = sym (c .before .before .before .before .names .ensures) ∙ c .before .before .before .if1 .taken in
+    let r· = room x· w· (args· .mask) small· (args· .t5) (pre· .0) (pre· .1) (omega (arith, good· .0)) (lowest-free· .result) (lowest-free· .ensures) (store (loop· .self)) (loop· .working) (loop· .c) (omega (arith, c .before .before .before .before .before .loop-test .taken)) (loop· .inv .1) here· in
+    record { fits = omega arith }
 
 move-forward-requires : tie.Need-move-forward-requires Inv-loop μ-loop
-move-forward-requires c κs =
-    let c₁ = c .before .before .before in
-    let c₂ = c₁ .before in
-    let c₃ = c₂ .before in
-    let c₄ = c₃ .before in
-    let loop· = c₄ .loop in
-    let l· : loop· .c < 16 = omega (arith, c₃ .loop-test .taken) in
-    let here· = sym (c₂ .names .ensures) ∙ c₁ .if1 .taken in
-    (to-fits (loop· .inv .1) l· here·, room-here (loop· .inv .1) l· here·, l·)
+move-forward-requires c κs = let args· = c .before .before .before .before .before .before .before .before .before .before .before .args in let good· = c .before .before .before .before .before .before .before .before .before .before .before .good in let loop· = c .before .before .before .before .before .before .loop in let pre· = c .before .before .before .before .before .before .before .before .before .before .before .pre in let lowest-free· = c .before .before .before .before .before .before .before .lowest-free in let loop-test· = c .before .before .before .before .before .loop-test in
+    let x· = stateOf (args· .t1) (now (args· .committed)) (now (args· .working)) in
+    let w· = shaped (args· .t1) _ (good· .0) in
+    let small· : args· .mask < 2 ^ 16 = search needs in
+    let here· : named (args· .mask) (loop· .c) ≡ true = sym (c .before .before .before .before .names .ensures) ∙ c .before .before .before .if1 .taken in
+    (fits x· w· (args· .mask) small· (args· .t5) (pre· .0) (pre· .1) (omega (arith, good· .0)) (lowest-free· .result) (lowest-free· .ensures) (store (loop· .self)) (loop· .working) (loop· .c) (omega (arith, loop-test· .taken)) (loop· .inv .1) here·, room x· w· (args· .mask) small· (args· .t5) (pre· .0) (pre· .1) (omega (arith, good· .0)) (lowest-free· .result) (lowest-free· .ensures) (store (loop· .self)) (loop· .working) (loop· .c) (omega (arith, loop-test· .taken)) (loop· .inv .1) here·, omega arith)
 
 mul-q : tie.Need-mul-q Inv-loop μ-loop
-mul-q c = record { fits = omega (arith, c .before .before .before .before .before .before .before .loop .inv .1 .index) }
+mul-q c = let args· = c .before .before .before .before .before .before .before .before .before .before .before .before .args in let good· = c .before .before .before .before .before .before .before .before .before .before .before .before .good in let pre· = c .before .before .before .before .before .before .before .before .before .before .before .before .pre in let lowest-free· = c .before .before .before .before .before .before .before .before .lowest-free in
+    let x· = stateOf (args· .t1) (now (args· .committed)) (now (args· .working)) in
+    let w· = shaped (args· .t1) _ (good· .0) in
+    let small· : args· .mask < 2 ^ 16 = search needs in
+    let i· = index x· w· (args· .mask) small· (args· .t5) (pre· .0) (pre· .1) (omega (arith, good· .0)) (lowest-free· .result) (lowest-free· .ensures) in
+    record { fits = omega arith }
 
 element-copy-out-q : tie.Need-element-copy-out-q Inv-loop μ-loop
-element-copy-out-q c = c .before .before .before .before .before .before .before .loop .inv .1 .index
+element-copy-out-q c = let args· = c .before .before .before .before .before .before .before .before .before .before .before .before .args in let good· = c .before .before .before .before .before .before .before .before .before .before .before .before .good in let pre· = c .before .before .before .before .before .before .before .before .before .before .before .before .pre in let lowest-free· = c .before .before .before .before .before .before .before .before .lowest-free in
+    let x· = stateOf (args· .t1) (now (args· .committed)) (now (args· .working)) in
+    let w· = shaped (args· .t1) _ (good· .0) in
+    let small· : args· .mask < 2 ^ 16 = search needs in
+    index x· w· (args· .mask) small· (args· .t5) (pre· .0) (pre· .1) (omega (arith, good· .0)) (lowest-free· .result) (lowest-free· .ensures)
 
 cast-with : tie.Need-cast-with Inv-loop μ-loop
 cast-with c = let l· : c .before .before .before .before .before .before .before .before .loop .c < 16 = omega arith in search needs
@@ -245,80 +205,77 @@ with-requires : tie.Need-with-requires Inv-loop μ-loop
 with-requires c κs = omega arith
 
 mul-t43 : tie.Need-mul-t43 Inv-loop μ-loop
-mul-t43 c = record { fits = omega (arith, c .before .before .before .before .before .before .before .before .before .loop .inv .1 .index) }
+mul-t43 c = let args· = c .before .before .before .before .before .before .before .before .before .before .before .before .before .before .args in let good· = c .before .before .before .before .before .before .before .before .before .before .before .before .before .before .good in let pre· = c .before .before .before .before .before .before .before .before .before .before .before .before .before .before .pre in let lowest-free· = c .before .before .before .before .before .before .before .before .before .before .lowest-free in
+    let x· = stateOf (args· .t1) (now (args· .committed)) (now (args· .working)) in
+    let w· = shaped (args· .t1) _ (good· .0) in
+    let small· : args· .mask < 2 ^ 16 = search needs in
+    let i· = index x· w· (args· .mask) small· (args· .t5) (pre· .0) (pre· .1) (omega (arith, good· .0)) (lowest-free· .result) (lowest-free· .ensures) in
+    record { fits = omega arith }
 
 element-set-from-self-2 : tie.Need-element-set-from-self-2 Inv-loop μ-loop
-element-set-from-self-2 c = c .before .before .before .before .before .before .before .before .before .loop .inv .1 .index
-
--- a class that is named: its head as it was or put back, and the entry in; or one that is not
-loop-again : tie.Need-loop-again Inv-loop μ-loop
-loop-again c =
-    let c₁ = c .before .before .before in
-    let c₂ = c₁ .before in
-    let c₃ = c₂ .before .before .before .before in
-    let loop· = c₁ .loop in
-    let loop-test· = c .before .before .loop-test in
-    let args· = c₃ .args in
-    let names· = c .before .names in
-    let l· : loop· .c < 16 = omega (arith, loop-test· .taken) in
-    let Next· : Site → List ℕ → Type 0 =
-    λ s v. Going (counted (store (args· .t1))) (store s) (now (args· .committed)) (now (args· .working)) v (args· .mask) (c₂ .lowest-free .result)
-    (args· .t1 .confirmations) (loop· .c + 1) (args· .t5) in (
-      omega (arith, loop-test· .taken),
-      ⊎-elim
-          (λ z.
-          let here· : named (args· .mask) (loop· .c) ≡ true = sym (names· .ensures) ∙ z .0 .taken in
-          let Put· : Site → List ℕ → Type 0 = λ s v. Put (loop· .inv .1) l· here· (store s) v in
-          let put· : Put· (z .2 .self) (z .2 .working) =
-          ⊎-elim
-          (λ y. carried Put· (y .10) (y .9) (put-head (loop· .inv .1) l· here· (y .0 .taken) (y .1 .taken) _ _ (record {
-            is = ap (withSlot (store (loop· .self)) (headSlot (store (loop· .self)) (loop· .c))) (y .8 .ensures);
-            cells = y .3 .kept .0 ∙ loop· .inv .1 .cells;
-            own = copied (loop· .working) (args· .committed .now) (y .3 .last .0) (loop· .c) l· (loop· .inv .1 .cells) (loop· .inv .1 .right)
-                (y .3 .ensures);
-            others = uncopied (loop· .working) (args· .committed .now) (y .3 .last .0) (loop· .c) l· (loop· .inv .1 .cells) (loop· .inv .1 .right)
-                (y .3 .ensures);
-          })))
-          (⊎-elim
-          (λ y. carried Put· (y .3) (y .2) (put-none (loop· .inv .1) l· here· (inr (y .1 .left))))
-          (λ y. carried Put· (y .2) (y .1) (put-none (loop· .inv .1) l· here· (inl (y .0 .left)))))
-          (z .2 .came) in
-          carried Next· (z .8) (z .7) (turned (loop· .inv .1) l· here· (store (z .2 .self)) (z .2 .working) put· _ (z .6 .result)
-          (record {
-            queue = z .4 .ensures;
-            lens = refl;
-            queries = refl;
-            slots = refl;
-            map-same = (refl, refl);
-            counts =
-                (refl, refl, refl);
-            kept = refl;
-          })
-          (z .6 .ensures .0) (z .6 .ensures .1 ∙ put· .settled .counts .0 ∙ loop· .inv .1 .upto .counts .0) (z .6 .ok .1 .1 .0 .1)))
-          (λ z. carried Next· (z .2) (z .1) (skipped (loop· .inv .1) (sym (names· .ensures) ∙ z .0 .left)))
-          (c .if1 .came),
-    )
+element-set-from-self-2 c = let args· = c .before .before .before .before .before .before .before .before .before .before .before .before .before .before .args in let good· = c .before .before .before .before .before .before .before .before .before .before .before .before .before .before .good in let pre· = c .before .before .before .before .before .before .before .before .before .before .before .before .before .before .pre in let lowest-free· = c .before .before .before .before .before .before .before .before .before .before .lowest-free in
+    let x· = stateOf (args· .t1) (now (args· .committed)) (now (args· .working)) in
+    let w· = shaped (args· .t1) _ (good· .0) in
+    let small· : args· .mask < 2 ^ 16 = search needs in
+    index x· w· (args· .mask) small· (args· .t5) (pre· .0) (pre· .1) (omega (arith, good· .0)) (lowest-free· .result) (lowest-free· .ensures)
 
 cast-t58 : tie.Need-cast-t58 Inv-loop μ-loop
-cast-t58 c = record { fits = omega (arith, c .before .loop .inv .1 .index) }
+cast-t58 c = let args· = c .before .before .before .before .before .before .args in let good· = c .before .before .before .before .before .before .good in let pre· = c .before .before .before .before .before .before .pre in let lowest-free· = c .before .before .lowest-free in
+    let x· = stateOf (args· .t1) (now (args· .committed)) (now (args· .working)) in
+    let w· = shaped (args· .t1) _ (good· .0) in
+    let small· : args· .mask < 2 ^ 16 = search needs in
+    let i· = index x· w· (args· .mask) small· (args· .t5) (pre· .0) (pre· .1) (omega (arith, good· .0)) (lowest-free· .result) (lowest-free· .ensures) in
+    record { fits = omega arith }
 
 add-t59 : tie.Need-add-t59 Inv-loop μ-loop
-add-t59 c = record { fits = omega (arith, c .before .loop .inv .1 .index) }
+add-t59 c = let args· = c .before .before .before .before .before .before .args in let good· = c .before .before .before .before .before .before .good in let pre· = c .before .before .before .before .before .before .pre in let lowest-free· = c .before .before .lowest-free in
+    let x· = stateOf (args· .t1) (now (args· .committed)) (now (args· .working)) in
+    let w· = shaped (args· .t1) _ (good· .0) in
+    let small· : args· .mask < 2 ^ 16 = search needs in
+    let i· = index x· w· (args· .mask) small· (args· .t5) (pre· .0) (pre· .1) (omega (arith, good· .0)) (lowest-free· .result) (lowest-free· .ensures) in
+    record { fits = omega arith }
 
 same-length : tie.Need-same-length Inv-loop μ-loop
 same-length c = omega (arith, c .before .loop .inv .1 .cells, c .before .before .before .before .before .before .pre .0 .right .1)
 
 returns : tie.Need-returns Inv-loop μ-loop
-returns c =
-    let c₁ = c .before .before .before .before .before .before in
-    let args· = c₁ .args in
-    let lowest-free· = c .before .before .lowest-free in
-    let loop· = c .before .loop in
-    let f· = c₁ .pre .0 in
+returns c = let args· = c .before .before .before .before .before .before .args in let good· = c .before .before .before .before .before .before .good in let pre· = c .before .before .before .before .before .before .pre in let lowest-free· = c .before .before .lowest-free in let loop· = c .before .loop in
+    let x· = stateOf (args· .t1) (now (args· .committed)) (now (args· .working)) in
+    let w· = shaped (args· .t1) _ (good· .0) in
     let small· : args· .mask < 2 ^ 16 = search needs in
-    begun-is (stateOf (args· .t1) (now (args· .committed)) (now (args· .working))) (shaped (args· .t1) _ (c₁ .good .0)) (f· .right) (f· .sound)
-    (args· .mask) small· (f· .some) (f· .free) (f· .more) (args· .t5) (lowest-free· .result) (lowest-free· .ensures) (store (loop· .self))
-    (loop· .working) (loop· .c) (omega arith) (loop· .inv .0) (loop· .inv .1)
+    at-last x· w· (args· .mask) small· (args· .t5) (pre· .0) (pre· .1) (omega (arith, good· .0)) (lowest-free· .result) (lowest-free· .ensures) (store (loop· .self)) (loop· .working) (loop· .c) (omega arith) (loop· .inv .0) (loop· .inv .1)
+
+loop-again : tie.Need-loop-again Inv-loop μ-loop
+loop-again c = let args· = c .before .before .before .before .before .before .before .before .args in let good· = c .before .before .before .before .before .before .before .before .good in let loop· = c .before .before .before .loop in let loop-test· = c .before .before .loop-test in let lowest-free· = c .before .before .before .before .lowest-free in let names· = c .before .names in let pre· = c .before .before .before .before .before .before .before .before .pre in
+    let x· = stateOf (args· .t1) (now (args· .committed)) (now (args· .working)) in
+    let w· = shaped (args· .t1) _ (good· .0) in
+    let small· : args· .mask < 2 ^ 16 = search needs in
+    let l· : loop· .c < 16 = omega (arith, loop-test· .taken) in
+    let Next· : Site → List ℕ → Type 0 =
+    λ s v. Within (counted (store (args· .t1))) (store s) (now (args· .committed)) (now (args· .working)) v (args· .mask) (lowest-free· .result) (args· .t1 .confirmations) (loop· .c + 1) in (
+      omega (arith, loop-test· .taken),
+      ⊎-elim
+          (λ z.
+          let here· : named (args· .mask) (loop· .c) ≡ true = sym (names· .ensures) ∙ z .0 .taken in
+          let Put· : Site → List ℕ → Type 0 = λ s v. Put x· w· (args· .mask) small· (args· .t5) (pre· .0) (pre· .1) (omega (arith, good· .0)) (lowest-free· .result) (lowest-free· .ensures) (store (loop· .self)) (loop· .working) (loop· .c) l· (loop· .inv .1) here· (store s) v in
+          let put· : Put· (z .2 .self) (z .2 .working) =
+          ⊎-elim
+          (λ y. carried Put· (y .10) (y .9) (put-head x· w· (args· .mask) small· (args· .t5) (pre· .0) (pre· .1) (omega (arith, good· .0)) (lowest-free· .result) (lowest-free· .ensures) (store (loop· .self)) (loop· .working) (loop· .c) l· (loop· .inv .1) here· (y .0 .taken) (y .1 .taken) _ _ (record {
+            is = ap (withSlot (store (loop· .self)) (headSlot (store (loop· .self)) (loop· .c))) (y .8 .ensures);
+            cells = y .3 .kept .0 ∙ loop· .inv .1 .cells;
+            own = copied (loop· .working) (args· .committed .now) (y .3 .last .0) (loop· .c) l· (loop· .inv .1 .cells) (pre· .0 .right .0) (y .3 .ensures);
+            others = uncopied (loop· .working) (args· .committed .now) (y .3 .last .0) (loop· .c) l· (loop· .inv .1 .cells) (pre· .0 .right .0) (y .3 .ensures);
+          })))
+          (⊎-elim
+          (λ y. carried Put· (y .3) (y .2) (put-none x· w· (args· .mask) small· (args· .t5) (pre· .0) (pre· .1) (omega (arith, good· .0)) (lowest-free· .result) (lowest-free· .ensures) (store (loop· .self)) (loop· .working) (loop· .c) l· (loop· .inv .1) here· (inr (y .1 .left))))
+          (λ y. carried Put· (y .2) (y .1) (put-none x· w· (args· .mask) small· (args· .t5) (pre· .0) (pre· .1) (omega (arith, good· .0)) (lowest-free· .result) (lowest-free· .ensures) (store (loop· .self)) (loop· .working) (loop· .c) l· (loop· .inv .1) here· (inl (y .0 .left)))))
+          (z .2 .came) in
+          carried Next· (z .8) (z .7) (turned x· w· (args· .mask) small· (args· .t5) (pre· .0) (pre· .1) (omega (arith, good· .0)) (lowest-free· .result) (lowest-free· .ensures) (store (loop· .self)) (loop· .working) (loop· .c) l· (loop· .inv .1) here· (store (z .2 .self)) (z .2 .working) put· _ (z .6 .result)
+          (record { queue = z .4 .ensures; lens = refl; queries = refl; slots = refl; map-same = (refl, refl); counts = (refl, refl, refl); kept = refl })
+          (z .6 .ensures .0) (z .6 .ensures .1) (z .6 .ok .1 .1 .0 .1)))
+          (λ z. carried Next· (z .2) (z .1) (skipped (counted (store (args· .t1))) _ _ _ _ _ _ _ _ (loop· .inv .1) (sym (names· .ensures) ∙ z .0 .left)))
+          (c .if1 .came),
+    )
 
 pub begin-spec : {M : Type 1} → statement M
 begin-spec =

@@ -10,19 +10,10 @@ use Rattle.site.proofs.Site.first_waiting.Statement.{statement}
 use Rattle.site.proofs.Site.first_waiting.Tie as tie
 
 waits-from-requires : tie.Need-waits-from-requires
-waits-from-requires c κs =
-    let c₁ = c .before .before .before .before .before .before in
-    let pre· = c₁ .pre in
-    omega (arith, pre· .1, pre· .0 .not-longer-than-136 (c₁ .args .c) (pre· .1))
+waits-from-requires c κs = let pre· = c .before .before .before .before .before .before .before .before .pre in omega (arith, pre· .1, pre· .0 .not-longer-than-136 (c .before .before .before .before .before .before .before .before .args .c) (pre· .1))
 
 returns : tie.Need-returns
-returns c =
-    let c₁ = c .before .before .before .before .before in
-    let c₂ = c₁ .before .before in
-    let args· = c₂ .args in
-    let waits-from· = c .waits-from in
-    subst (λ (f : ℕ → ℕ). WaitsFrom f (args· .self .queue) (136 * args· .c) (lenOf (store (args· .self)) (args· .c)) (waits-from· .result))
-    (c₁ .gather-numbers .ensures .number) (waits-from· .ensures)
+returns c = let args· = c .before .before .before .before .before .before .before .before .before .args in subst (λ (f : ℕ → ℕ). WaitsFrom f (args· .t1 .queue) (136 * args· .c) (lenOf (store (args· .t1)) (args· .c)) (c .waits-from .result)) (c .before .before .before .before .before .before .gather-stages .ensures .0 .number) (c .waits-from .ensures)
 
 pub first-waiting-spec : {M : Type 1} → statement M
 first-waiting-spec =

@@ -24,43 +24,23 @@ one-more number queue lens ends c p n l h w d m = by-test (eqb d c)
     (λ f. let ne = eqb-false d c f in rw (getD-set-other ends c d p 0 ne) (h d (omega arith)))
 
 abbrev Inv-loop : tie.InvT-loop
-Inv-loop numbers queue lens ends₀ c₀ ends c =
-    (c ≤ 16) × (length ends ≡ 16) × ((d : ℕ) → d < c → WaitsFrom (nth numbers) queue (136 * d) (getD lens d 0) (getD ends d 0))
+Inv-loop g queue lens ends₀ c₀ ends c =
+    (c ≤ 16) × (length ends ≡ 16) × ((d : ℕ) → d < c → WaitsFrom (nth (g .numbers)) queue (136 * d) (getD lens d 0) (getD ends d 0))
 
 abbrev μ-loop : tie.MeasureT-loop
-μ-loop numbers queue lens ends₀ c₀ ends c = 16 - c
+μ-loop g queue lens ends₀ c₀ ends c = 16 - c
 
 loop-holds : tie.Need-loop-holds Inv-loop μ-loop
 loop-holds c = (omega arith, search needs, below-none _)
 
 waits-from-requires : tie.Need-waits-from-requires Inv-loop μ-loop
-waits-from-requires c κs =
-    let c₁ = c .before .before .before in
-    let c₂ = c₁ .before .before .before .before .before in
-    let loop· = c₁ .loop in
-    let l : loop· .c < 16 = omega arith in
-    omega (arith, c₂ .pre .not-longer-than-136 (loop· .c) l)
+waits-from-requires c κs = let loop· = c .before .before .before .before .loop in let l : loop· .c < 16 = omega arith in omega (arith, c .before .before .before .before .before .before .before .before .before .before .pre .not-longer-than-136 (loop· .c) l)
 
 loop-again : tie.Need-loop-again Inv-loop μ-loop
-loop-again c =
-    let c₁ = c .before .before .before .before in
-    let c₂ = c₁ .before .before .before .before .before in
-    let loop· = c₁ .loop in
-    let l : loop· .c < 16 = omega arith in (
-      omega arith,
-      length-set (loop· .ends) (loop· .c) _ ∙ loop· .inv .1,
-      one-more _ _ (c₂ .args .self .lens) (loop· .ends) (loop· .c) _
-          (loop· .inv .1) l (loop· .inv .2) (c .waits-from .ensures),
-    )
+loop-again c = let loop· = c .before .before .before .before .before .loop in let l : loop· .c < 16 = omega arith in (omega arith, length-set (loop· .ends) (loop· .c) _ ∙ loop· .inv .1, one-more _ _ (c .before .before .before .before .before .before .before .before .before .before .before .args .self .lens) (loop· .ends) (loop· .c) _ (loop· .inv .1) l (loop· .inv .2) (c .waits-from .ensures))
 
 returns : tie.Need-returns Inv-loop μ-loop
-returns c =
-    let c₁ = c .before .before .before .before in
-    let c₂ = c₁ .before .before in
-    let args· = c₂ .args in
-    let loop· = c .before .loop in
-    subst (λ (f : ℕ → ℕ). (d : ℕ) → d < 16 → WaitsFrom f (args· .self .queue) (136 * d) (getD (args· .self .lens) d 0) (getD (loop· .ends) d 0))
-    (c₁ .gather-numbers .ensures .number) (λ d l. loop· .inv .2 d (omega arith))
+returns c = let args· = c .before .before .before .before .before .before .before .args in let loop· = c .before .loop in subst (λ (f : ℕ → ℕ). (d : ℕ) → d < 16 → WaitsFrom f (args· .self .queue) (136 * d) (getD (args· .self .lens) d 0) (getD (loop· .ends) d 0)) (c .before .before .before .before .gather-stages .ensures .0 .number) (λ d l. loop· .inv .2 d (omega arith))
 
 pub firsts-waiting-spec : {M : Type 1} → statement M
 firsts-waiting-spec =

@@ -24,19 +24,12 @@ element-set-from-self : tie.Need-element-set-from-self
 element-set-from-self c = c .before .before .before .before .before .before .before .before .before .pre .request
 
 returns : tie.Need-returns
-returns c =
-    let c₁ = c .before .before .before .before .before in
-    let c₂ = c₁ .before .before .before .before in
-    let args· = c₂ .args in
-    let copy-class· = c₁ .copy-class in
-    let pre· = c₂ .pre in
+returns c = let args· = c .before .before .before .before .before .before .before .before .before .args in let copy-class· = c .before .before .before .before .before .copy-class in let pre· = c .before .before .before .before .before .before .before .before .before .pre in
     record {
       is = ap (withSlot (store (args· .t1)) (headSlot (store (args· .t1)) (args· .c))) (c .backed .ensures);
       cells = copy-class· .kept .0 ∙ pre· .cells .1;
-      own = copied (args· .working .now) (args· .committed .now) (copy-class· .last .0) (args· .c) (pre· .class) (pre· .cells .1) (pre· .cells .0)
-          (copy-class· .ensures);
-      others = uncopied (args· .working .now) (args· .committed .now) (copy-class· .last .0) (args· .c) (pre· .class) (pre· .cells .1)
-          (pre· .cells .0) (copy-class· .ensures);
+      own = copied (args· .working .now) (args· .committed .now) (copy-class· .last .0) (args· .c) (pre· .class) (pre· .cells .1) (pre· .cells .0) (copy-class· .ensures);
+      others = uncopied (args· .working .now) (args· .committed .now) (copy-class· .last .0) (args· .c) (pre· .class) (pre· .cells .1) (pre· .cells .0) (copy-class· .ensures);
     }
 
 pub put-back-spec : {M : Type 1} → statement M

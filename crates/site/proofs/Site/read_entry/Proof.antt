@@ -19,28 +19,13 @@ sub-p : tie.Need-sub-p
 sub-p c = let h = c .before .before .before .pre .1 in search needs
 
 cast-p : tie.Need-cast-p
-cast-p c =
-    let c₁ = c .before .before .before in
-    let args· = c₁ .args in
-    let pre· = c₁ .pre in
-    let h = entry-small (store (args· .t1)) (shaped (args· .t1) _ (c₁ .good .0)) (pre· .0 .sound .laid) (args· .c) (pre· .0 .class) (pre· .0 .some) in
-    record { fits = omega arith }
+cast-p c = let args· = c .before .before .before .args in let pre· = c .before .before .before .pre in let h = entry-small (store (args· .t1)) (shaped (args· .t1) _ (c .before .before .before .good .0)) (pre· .0 .sound .laid) (args· .c) (pre· .0 .class) (pre· .0 .some) in record { fits = omega arith }
 
 mul-q : tie.Need-mul-q
-mul-q c =
-    let c₁ = c .before .before .before in
-    let args· = c₁ .args in
-    let pre· = c₁ .pre in
-    let h = entry-small (store (args· .t1)) (shaped (args· .t1) _ (c₁ .good .0)) (pre· .0 .sound .laid) (args· .c) (pre· .0 .class) (pre· .0 .some) in
-    record { fits = omega arith }
+mul-q c = let args· = c .before .before .before .args in let pre· = c .before .before .before .pre in let h = entry-small (store (args· .t1)) (shaped (args· .t1) _ (c .before .before .before .good .0)) (pre· .0 .sound .laid) (args· .c) (pre· .0 .class) (pre· .0 .some) in record { fits = omega arith }
 
 element-copy-out-q : tie.Need-element-copy-out-q
-element-copy-out-q c =
-    let c₁ = c .before .before .before in
-    let args· = c₁ .args in
-    let pre· = c₁ .pre in
-    let h = entry-small (store (args· .t1)) (shaped (args· .t1) _ (c₁ .good .0)) (pre· .0 .sound .laid) (args· .c) (pre· .0 .class) (pre· .0 .some) in
-    omega (arith, pre· .1)
+element-copy-out-q c = let args· = c .before .before .before .args in let pre· = c .before .before .before .pre in let h = entry-small (store (args· .t1)) (shaped (args· .t1) _ (c .before .before .before .good .0)) (pre· .0 .sound .laid) (args· .c) (pre· .0 .class) (pre· .0 .some) in omega (arith, pre· .1)
 
 cast-without : tie.Need-cast-without
 cast-without c = let l = c .before .before .before .before .pre .0 .class in record { fits = omega arith }
@@ -49,35 +34,19 @@ without-requires : tie.Need-without-requires
 without-requires c κs = c .before .before .before .before .pre .0 .class
 
 mul-t10 : tie.Need-mul-t10
-mul-t10 c =
-    let c₁ = c .before .before .before .before .before in
-    let args· = c₁ .args in
-    let pre· = c₁ .pre in
-    let h = entry-small (store (args· .t1)) (shaped (args· .t1) _ (c₁ .good .0)) (pre· .0 .sound .laid) (args· .c) (pre· .0 .class) (pre· .0 .some) in
-    record { fits = omega arith }
+mul-t10 c = let args· = c .before .before .before .before .before .args in let pre· = c .before .before .before .before .before .pre in let h = entry-small (store (args· .t1)) (shaped (args· .t1) _ (c .before .before .before .before .before .good .0)) (pre· .0 .sound .laid) (args· .c) (pre· .0 .class) (pre· .0 .some) in record { fits = omega arith }
 
 element-set-from-self : tie.Need-element-set-from-self
-element-set-from-self c =
-    let c₁ = c .before .before .before .before .before in
-    let args· = c₁ .args in
-    let pre· = c₁ .pre in
-    let h = entry-small (store (args· .t1)) (shaped (args· .t1) _ (c₁ .good .0)) (pre· .0 .sound .laid) (args· .c) (pre· .0 .class) (pre· .0 .some) in
-    omega (arith, pre· .1)
+element-set-from-self c = let args· = c .before .before .before .before .before .args in let pre· = c .before .before .before .before .before .pre in let h = entry-small (store (args· .t1)) (shaped (args· .t1) _ (c .before .before .before .before .before .good .0)) (pre· .0 .sound .laid) (args· .c) (pre· .0 .class) (pre· .0 .some) in omega (arith, pre· .1)
 
 element-copy-out-len : tie.Need-element-copy-out-len
 element-copy-out-len c = let l = c .before .before .before .before .before .pre .0 .class in search needs
 
 cast-take-head : tie.Need-cast-take-head
-cast-take-head c =
-    let c₁ = c .before .before .before .before .before .before .before in
-    let pre· = c₁ .pre in
-    record { fits = omega (arith, pre· .0 .sound .laid .not-longer-than-136 (c₁ .args .c) (pre· .0 .class)) }
+cast-take-head c = let pre· = c .before .before .before .before .before .before .before .pre in record { fits = omega (arith, pre· .0 .sound .laid .not-longer-than-136 (c .before .before .before .before .before .before .before .args .c) (pre· .0 .class)) }
 
 take-head-requires : tie.Need-take-head-requires
-take-head-requires c κs =
-    let c₁ = c .before .before .before .before .before .before .before in
-    let pre· = c₁ .pre in
-    (pre· .0 .some, pre· .0 .sound .laid .not-longer-than-136 (c₁ .args .c) (pre· .0 .class), pre· .0 .class)
+take-head-requires c κs = let pre· = c .before .before .before .before .before .before .before .pre in (pre· .0 .some, pre· .0 .sound .laid .not-longer-than-136 (c .before .before .before .before .before .before .before .args .c) (pre· .0 .class), pre· .0 .class)
 
 sub-self : tie.Need-sub-self
 sub-self c = let h = c .before .before .before .before .before .before .before .before .pre .0 .some in search needs
@@ -89,26 +58,13 @@ sub-t13 : tie.Need-sub-t13
 sub-t13 c = let h = c .before .before .before .before .before .before .before .before .pre .1 in search needs
 
 add-t27 : tie.Need-add-t27
-add-t27 c =
-    let c₁ = c .before .before .before .before .before .before .before .before in
-    let args· = c₁ .args in
-    let pre· = c₁ .pre in
-    let h = entry-small (store (args· .t1)) (shaped (args· .t1) _ (c₁ .good .0)) (pre· .0 .sound .laid) (args· .c) (pre· .0 .class) (pre· .0 .some) in
-    record { fits = omega arith }
+add-t27 c = let args· = c .before .before .before .before .before .before .before .before .args in let pre· = c .before .before .before .before .before .before .before .before .pre in let h = entry-small (store (args· .t1)) (shaped (args· .t1) _ (c .before .before .before .before .before .before .before .before .good .0)) (pre· .0 .sound .laid) (args· .c) (pre· .0 .class) (pre· .0 .some) in record { fits = omega arith }
+
+cast-t28 : tie.Need-cast-t28
+cast-t28 c = let l = c .before .before .before .before .before .before .before .before .pre .0 .class in record { fits = omega arith }
 
 returns : tie.Need-returns
-returns c =
-    let c₁ = c .before .before .before in
-    let c₂ = c₁ .before .before .before .before .before in
-    let args· = c₂ .args in
-    let pre· = c₂ .pre in
-    let without· = c₁ .without in
-    let take-head· = c .take-head in
-    let x· = stateOf (args· .t1) (now (args· .committed)) (now (args· .working)) in
-    let w· = shaped (args· .t1) _ (c₂ .good .0) in
-    read-as x· w· (pre· .0 .right) (pre· .0 .sound) (args· .c) (pre· .0 .class) (pre· .0 .some) (pre· .1) _ (without· .result)
-    (without· .ensures .0) (without· .ensures .1) refl refl (take-head· .ensures .own) (take-head· .ensures .others) refl (refl, refl)
-    (refl, refl, refl) refl _ (omega (arith, pre· .1))
+returns c = let args· = c .before .before .before .before .before .before .before .before .args in let pre· = c .before .before .before .before .before .before .before .before .pre in let without· = c .before .before .before .without in let take-head· = c .take-head in let x· = stateOf (args· .t1) (now (args· .committed)) (now (args· .working)) in let w· = shaped (args· .t1) _ (c .before .before .before .before .before .before .before .before .good .0) in read-as x· w· (pre· .0 .right) (pre· .0 .sound) (args· .c) (pre· .0 .class) (pre· .0 .some) (pre· .1) _ (without· .result) (without· .ensures .0) (without· .ensures .1) refl refl (take-head· .ensures .own) (take-head· .ensures .others) refl (refl, refl) (refl, refl, refl) refl _ (omega (arith, pre· .1))
 
 pub read-entry-spec : {M : Type 1} → statement M
 read-entry-spec =
@@ -131,4 +87,5 @@ read-entry-spec =
     element-write-self
     sub-t13
     add-t27
+    cast-t28
     returns)

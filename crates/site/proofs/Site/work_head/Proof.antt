@@ -37,21 +37,7 @@ part-step-end-2 : tie.Need-part-step-end-2
 part-step-end-2 c = let pre· = c .before .before .before .before .before .before .pre in let l = pre· .0 .class in omega (arith, pre· .0 .right .1)
 
 step-requires : tie.Need-step-requires
-step-requires c κs =
-    let c₁ = c .before .before .before .before .before .before .before in
-    let args· = c₁ .args in
-    let pre· = c₁ .pre in
-    let x· = stateOf (args· .t1) (now (args· .committed)) (now (args· .working)) in
-    let w· = shaped (args· .t1) _ (c₁ .good .0) in (
-      lent-long _ (args· .c) (pre· .0 .right .0) (pre· .0 .class),
-      lent-long _ (args· .c) (pre· .0 .right .1) (pre· .0 .class),
-      head-held x· w·
-          (pre· .0 .right) (pre· .0 .sound) (args· .c) (pre· .0 .class) (pre· .0 .some) (pre· .1),
-      (work-left x· w· (pre· .0 .right) (pre· .0 .sound)
-          (args· .c) (pre· .0 .class) (pre· .0 .some) (pre· .1) (pre· .0 .unfinished (pre· .1))),
-      rw (lent-is, lent-is) (marked x· w· (pre· .0 .right)
-          (pre· .0 .sound) (args· .c) (pre· .0 .class) (pre· .0 .some) (pre· .1)),
-    )
+step-requires c κs = let args· = c .before .before .before .before .before .before .before .args in let pre· = c .before .before .before .before .before .before .before .pre in let x· = stateOf (args· .t1) (now (args· .committed)) (now (args· .working)) in let w· = shaped (args· .t1) _ (c .before .before .before .before .before .before .before .good .0) in (lent-long _ (args· .c) (pre· .0 .right .0) (pre· .0 .class), lent-long _ (args· .c) (pre· .0 .right .1) (pre· .0 .class), head-held x· w· (pre· .0 .right) (pre· .0 .sound) (args· .c) (pre· .0 .class) (pre· .0 .some) (pre· .1), (work-left x· w· (pre· .0 .right) (pre· .0 .sound) (args· .c) (pre· .0 .class) (pre· .0 .some) (pre· .1) (pre· .0 .unfinished (pre· .1))), rw (lent-is, lent-is) (marked x· w· (pre· .0 .right) (pre· .0 .sound) (args· .c) (pre· .0 .class) (pre· .0 .some) (pre· .1)))
 
 mul-u : tie.Need-mul-u
 mul-u c = record { fits = omega (arith, c .before .before .before .before .before .before .before .before .before .before .pre .1) }
@@ -60,59 +46,16 @@ element-set-from-u : tie.Need-element-set-from-u
 element-set-from-u c = c .before .before .before .before .before .before .before .before .before .before .pre .1
 
 returns : tie.Need-returns
-returns c =
-    let c₁ = c .before .before .before .before in
-    let c₂ = c₁ .before .before .before .before .before .before .before .before in
-    let args· = c₂ .args in
-    let pre· = c₂ .pre in
-    let step· = c₁ .step in
-    let x· = stateOf (args· .t1) (now (args· .committed)) (now (args· .working)) in
-    let w· = shaped (args· .t1) _ (c₂ .good .0) in
-    stepped-as x· w· (pre· .0 .right) (pre· .0 .sound) (args· .c) (pre· .0 .class) (pre· .0 .some) (pre· .1) (work-left x· w· (pre· .0 .right)
-    (pre· .0 .sound) (args· .c) (pre· .0 .class) (pre· .0 .some) (pre· .1) (pre· .0 .unfinished (pre· .1))) (step· .result) _ (step· .kept .1 .1 .0)
-    (step· .ensures) (omega (arith, c .if1 .taken))
+returns c = let args· = c .before .before .before .before .before .before .before .before .before .before .before .before .args in let pre· = c .before .before .before .before .before .before .before .before .before .before .before .before .pre in let step· = c .before .before .before .before .step in let x· = stateOf (args· .t1) (now (args· .committed)) (now (args· .working)) in let w· = shaped (args· .t1) _ (c .before .before .before .before .before .before .before .before .before .before .before .before .good .0) in stepped-as x· w· (pre· .0 .right) (pre· .0 .sound) (args· .c) (pre· .0 .class) (pre· .0 .some) (pre· .1) (work-left x· w· (pre· .0 .right) (pre· .0 .sound) (args· .c) (pre· .0 .class) (pre· .0 .some) (pre· .1) (pre· .0 .unfinished (pre· .1))) (step· .result) _ (step· .kept .1 .1 .0) (step· .ensures) (omega (arith, c .if1 .taken))
 
 returns-2 : tie.Need-returns-2
-returns-2 c =
-    let c₁ = c .before .before .before .before .before .before in
-    let c₂ = c₁ .before .before .before .before .before .before .before .before in
-    let args· = c₂ .args in
-    let pre· = c₂ .pre in
-    let step· = c₁ .step in
-    let x· = stateOf (args· .t1) (now (args· .committed)) (now (args· .working)) in
-    let w· = shaped (args· .t1) _ (c₂ .good .0) in
-    executed-as x· w· (pre· .0 .right) (pre· .0 .sound) (args· .c) (pre· .0 .class) (pre· .0 .some) (pre· .1) (work-left x· w· (pre· .0 .right)
-    (pre· .0 .sound) (args· .c) (pre· .0 .class) (pre· .0 .some) (pre· .1) (pre· .0 .unfinished (pre· .1))) (step· .result) _ (step· .kept .1 .1 .0)
-    (step· .ensures) (omega (arith, c .before .before .if1 .left)) (omega (arith, c .if2 .taken))
+returns-2 c = let args· = c .before .before .before .before .before .before .before .before .before .before .before .before .before .before .args in let pre· = c .before .before .before .before .before .before .before .before .before .before .before .before .before .before .pre in let step· = c .before .before .before .before .before .before .step in let x· = stateOf (args· .t1) (now (args· .committed)) (now (args· .working)) in let w· = shaped (args· .t1) _ (c .before .before .before .before .before .before .before .before .before .before .before .before .before .before .good .0) in executed-as x· w· (pre· .0 .right) (pre· .0 .sound) (args· .c) (pre· .0 .class) (pre· .0 .some) (pre· .1) (work-left x· w· (pre· .0 .right) (pre· .0 .sound) (args· .c) (pre· .0 .class) (pre· .0 .some) (pre· .1) (pre· .0 .unfinished (pre· .1))) (step· .result) _ (step· .kept .1 .1 .0) (step· .ensures) (omega (arith, c .before .before .if1 .left)) (omega (arith, c .if2 .taken))
 
 commit-requires : tie.Need-commit-requires
-commit-requires c κs =
-    let c₁ = c .before .before .before .before .before .before .before .before in
-    let c₂ = c₁ .before .before .before .before .before .before .before .before in
-    let args· = c₂ .args in
-    let good· = c₂ .good in
-    let pre· = c₂ .pre in
-    let step· = c₁ .step in
-    let x· = stateOf (args· .t1) (now (args· .committed)) (now (args· .working)) in
-    let w· = shaped (args· .t1) _ (good· .0) in
-    may-commit x· w· (pre· .0 .right) (pre· .0 .sound) (args· .c) (pre· .0 .class) (pre· .0 .some) (pre· .1) (work-left x· w· (pre· .0 .right)
-    (pre· .0 .sound) (args· .c) (pre· .0 .class) (pre· .0 .some) (pre· .1) (pre· .0 .unfinished (pre· .1))) (step· .result) _ (step· .kept .1 .1 .0)
-    (step· .ensures) (omega (arith, c .before .before .if2 .left)) (omega (arith, good· .0))
+commit-requires c κs = let args· = c .before .before .before .before .before .before .before .before .before .before .before .before .before .before .before .before .args in let good· = c .before .before .before .before .before .before .before .before .before .before .before .before .before .before .before .before .good in let pre· = c .before .before .before .before .before .before .before .before .before .before .before .before .before .before .before .before .pre in let step· = c .before .before .before .before .before .before .before .before .step in let x· = stateOf (args· .t1) (now (args· .committed)) (now (args· .working)) in let w· = shaped (args· .t1) _ (good· .0) in may-commit x· w· (pre· .0 .right) (pre· .0 .sound) (args· .c) (pre· .0 .class) (pre· .0 .some) (pre· .1) (work-left x· w· (pre· .0 .right) (pre· .0 .sound) (args· .c) (pre· .0 .class) (pre· .0 .some) (pre· .1) (pre· .0 .unfinished (pre· .1))) (step· .result) _ (step· .kept .1 .1 .0) (step· .ensures) (omega (arith, c .before .before .if2 .left)) (omega (arith, good· .0))
 
 returns-3 : tie.Need-returns-3
-returns-3 c =
-    let c₁ = c .before .before .before .before .before in
-    let c₂ = c₁ .before .before in
-    let c₃ = c₂ .before .before .before .before in
-    let c₄ = c₃ .before .before .before .before .before .before .before .before in
-    let args· = c₄ .args in
-    let pre· = c₄ .pre in
-    let step· = c₃ .step in
-    let x· = stateOf (args· .t1) (now (args· .committed)) (now (args· .working)) in
-    let w· = shaped (args· .t1) _ (c₄ .good .0) in
-    committed-as x· w· (pre· .0 .right) (pre· .0 .sound) (args· .c) (pre· .0 .class) (pre· .0 .some) (pre· .1) (work-left x· w· (pre· .0 .right)
-    (pre· .0 .sound) (args· .c) (pre· .0 .class) (pre· .0 .some) (pre· .1) (pre· .0 .unfinished (pre· .1))) (step· .result) _ (step· .kept .1 .1 .0)
-    (step· .ensures) (omega (arith, c₂ .if1 .left)) (omega (arith, c₁ .if2 .left)) _ _ (c .before .before .commit .ensures)
+returns-3 c = let args· = c .before .before .before .before .before .before .before .before .before .before .before .before .before .before .before .before .before .before .before .args in let pre· = c .before .before .before .before .before .before .before .before .before .before .before .before .before .before .before .before .before .before .before .pre in let step· = c .before .before .before .before .before .before .before .before .before .before .before .step in let x· = stateOf (args· .t1) (now (args· .committed)) (now (args· .working)) in let w· = shaped (args· .t1) _ (c .before .before .before .before .before .before .before .before .before .before .before .before .before .before .before .before .before .before .before .good .0) in committed-as x· w· (pre· .0 .right) (pre· .0 .sound) (args· .c) (pre· .0 .class) (pre· .0 .some) (pre· .1) (work-left x· w· (pre· .0 .right) (pre· .0 .sound) (args· .c) (pre· .0 .class) (pre· .0 .some) (pre· .1) (pre· .0 .unfinished (pre· .1))) (step· .result) _ (step· .kept .1 .1 .0) (step· .ensures) (omega (arith, c .before .before .before .before .before .before .before .if1 .left)) (omega (arith, c .before .before .before .before .before .if2 .left)) _ _ (c .before .before .commit .ensures)
 
 pub work-head-spec : {M : Type 1} → statement M
 work-head-spec =

@@ -19,30 +19,13 @@ loop-holds : tie.Need-loop-holds Inv-loop μ-loop
 loop-holds c = (omega arith, below-none _)
 
 returns : tie.Need-returns Inv-loop μ-loop
-returns c =
-    let c₁ = c .before .before .before .before .before in
-    record {
-      within = omega arith;
-      before = c₁ .loop .inv .1;
-      waits = λ l. (
-        omega (arith, c .before .before .if1 .taken),
-        omega
-            (arith, c .if2 .taken),
-      );
-    }
+returns c = record { within = omega arith; before = c .before .before .before .before .before .loop .inv .1; waits = λ l. (omega (arith, c .before .before .if1 .taken), omega (arith, c .if2 .taken)) }
 
 loop-again : tie.Need-loop-again Inv-loop μ-loop
-loop-again c =
-    let c₁ = c .before .before .before in (
-      search needs,
-      below-more _ _ (c₁ .loop .inv .1) (⊎-elim (λ z. inr (omega (arith, z .2 .left))) (λ z. inl (omega (arith, z .left)))
-          (c .if1 .came)),
-    )
+loop-again c = (search needs, below-more _ _ (c .before .before .before .loop .inv .1) (⊎-elim (λ z. inr (omega (arith, z .2 .left))) (λ z. inl (omega (arith, z .left))) (c .if1 .came)))
 
 returns-2 : tie.Need-returns-2 Inv-loop μ-loop
-returns-2 c =
-    let loop· = c .before .loop in
-    record { within = loop· .inv .0; before = loop· .inv .1; waits = λ l. absurd (omega (arith, c .loop-test .left)) }
+returns-2 c = let loop· = c .before .loop in record { within = loop· .inv .0; before = loop· .inv .1; waits = λ l. absurd (omega (arith, c .loop-test .left)) }
 
 pub waits-from-spec : {M : Type 1} → statement M
 waits-from-spec =

@@ -1,3 +1,0 @@
--- the laws of cutting, and inputs cut
-pub mod Cutting
-pub mod Examples

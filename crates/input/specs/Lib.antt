@@ -1,2 +1,0 @@
--- how an input is cut into pieces of one size
-pub mod Pieces

@@ -1,2 +1,0 @@
--- the promises of a call, from its contract
-pub mod Promised

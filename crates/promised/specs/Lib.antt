@@ -1,2 +1,0 @@
--- what is promised of the calls that are made
-pub mod Promised

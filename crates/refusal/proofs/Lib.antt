@@ -1,3 +1,0 @@
--- an outcome that is no length, and lines written out
-pub mod Outcomes
-pub mod Examples

@@ -1,2 +1,0 @@
--- what is said of a refusal
-pub mod Said

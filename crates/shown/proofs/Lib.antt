@@ -1,2 +1,0 @@
--- how showing goes on from record to record
-pub mod Showing

@@ -1,2 +1,0 @@
--- how an input of records is shown
-pub mod Showing
