@@ -8,7 +8,7 @@ use mathlib.Core.Option.{some}
 use mathlib.Core.List.{List, [], _∷_, _++_, append-assoc}
 use borrow.Author.Tests.{lt-leb, ltb-true}
 use Rattle.plain.specs.Ops.{Request, runAll}
-use Rattle.plain.specs.Queue.{Item, booking, reading, isConfirmed, backsOf, line, left, asks, asked, any, firstOf, upTo, confirmedPart}
+use Rattle.plain.specs.Queue.{Item, booking, reading, isConfirmed, backsOf, line, left, asks, asked, any, firstOf, upTo, confirmedPart, costs}
 use Rattle.plain.specs.Steps.{Class, Did, Answer, ending, idle}
 use Rattle.plain.specs.Site.{confirmedAt}
 use Rattle.plain.specs.Sound.{All, Untouched, Belongs, InOrder, AtHead, Working, SoundClass}
@@ -18,11 +18,6 @@ use Rattle.plain.proofs.Queues.{none-confirmed}
 use Rattle.plain.proofs.Steps.{Silent, Works, unconcerned, one-done, last-done}
 use Rattle.plain.proofs.Confirming.{Confirms, at-once, later}
 use Rattle.plain.proofs.Demand2.{run-append}
-
--- the work calls that a queue takes
-abbrev pub costs : List Item → ℕ
-costs [] = 0
-costs (x ∷ q) = left x + costs q
 
 -- The first of the confirmed part that passes f stands in line at n, was put back so often, finds these cells when its turn comes, and its end is
 -- w work calls away

@@ -12,7 +12,7 @@ use lib.Seq.{take-append-seam}
 use borrow.Author.Tests.{eqb-true, eqb-false, eq-eqb, lt-ltb}
 use Rattle.plain.specs.Ops.{Request, runAll}
 use Rattle.plain.specs.Queue.{Item, booking, reading, idIs, placeIs, isConfirmed, line, left, asks, asked, any, count, firstOf, upTo}
-use Rattle.plain.specs.Queue.{has, entryOf, owed, confirmedPart, beforeWaiting}
+use Rattle.plain.specs.Queue.{has, entryOf, owed, confirmedPart, beforeWaiting, costs}
 use Rattle.plain.specs.Steps.{Class, Answer, toDo, entry, begun, ending, backed, queryOn, queryStep}
 use Rattle.plain.specs.Site.{Site, Call, look, query, call, act, accepts, refusal, standing, classOf, confirmedAt, entryAt}
 use Rattle.plain.specs.Site.{Outcome, named, freePlace, lookAnswer}
@@ -29,7 +29,7 @@ use Rattle.plain.proofs.Sites.{query-accepted, named-below, class-is, l
 use Rattle.plain.proofs.Accepted.{place-lasts, query-both}
 use Rattle.plain.proofs.Kept.{call-sound}
 use Rattle.plain.proofs.Demand2.{after-sound, in-line, cells-are-the-serial-run, run-append}
-use Rattle.plain.proofs.Due.{costs, Due, Ends, Others, part-first}
+use Rattle.plain.proofs.Due.{Due, Ends, Others, part-first}
 use Rattle.plain.proofs.Turn.{Turn, turn, from-sound}
 use Rattle.plain.proofs.Logs.{counted}
 

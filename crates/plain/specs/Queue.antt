@@ -131,6 +131,15 @@ abbrev pub confirmedPart : List Item → List Item
 confirmedPart [] = []
 confirmedPart (x ∷ q) = cond (isConfirmed x) (x ∷ confirmedPart q) (confirmedPart q)
 
+-- the work calls that a queue takes: the operations still to do by its requests, and its entries
+abbrev pub costs : List Item → ℕ
+costs [] = 0
+costs (x ∷ q) = left x + costs q
+
+-- those that its confirmed part takes
+unfoldable pub confirmedCosts : List Item → ℕ
+confirmedCosts q = costs (confirmedPart q)
+
 -- the queue with e directly before the first waiting one
 abbrev pub beforeWaiting : Item → List Item → List Item
 beforeWaiting e [] = e ∷ []

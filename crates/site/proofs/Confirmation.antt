@@ -4,6 +4,8 @@ use native.Mathlib.Omega.{arith}
 use mathlib.Core.Path.{_≡_, refl, ap, subst, sym}
 use mathlib.Core.Logic.{_⊎_, inl, inr}
 use mathlib.Core.List.{List}
+use lib.ListN.{getD}
+use Rattle.plain.specs.Sizes.{mostOps, mostW}
 use Rattle.plain.specs.Steps as K
 use Rattle.plain.specs.Site as S
 use Rattle.slots.specs.Meaning.{slotAt}
@@ -11,8 +13,10 @@ use Rattle.store.specs.Store.{Store, Shaped}
 use Rattle.store.specs.Meaning.{lenOf}
 use Rattle.store.specs.Calls.{State, Did}
 use Rattle.store.specs.Steps.{headSlot, numberedStore, PlaceOf, FirstWaiting, Backable, Commitable, CommitDone, PutBack, Forward}
-use Rattle.store.proofs.Confirming.{class-here, stands-once, queue-some, may-be-put-back, may-commit, committed-now}
+use Rattle.store.proofs.Confirming.{class-here, held, stands-once, queue-some, may-be-put-back, may-commit, committed-now}
 use Rattle.store.proofs.Confirmed.{Movable, forward, Goes, itself, behind-confirmed, head-put-back}
+use Rattle.store.proofs.Counting.{countable}
+use Rattle.store.proofs.Ending.{sum-bounded}
 use Rattle.store.proofs.Work.{work-left}
 use Rattle.site.specs.Held.{InQueue, Confirmable, HeadDone}
 
@@ -28,6 +32,18 @@ module _ (x : State) (w : Shaped (x .site)) (i : ℕ) (f : Confirmable x i) wher
 
   pub small-class : c < 16
   small-class = class-here x w (f .right) (f .sound) id n (f .more) refl i (f .small) refl (f .used) .1
+
+  -- the sum of its class is small, and so is the count of its operations; no more of them are done
+  pub small-sum : (getD (x .site .sums) c 0 ≤ mostW) × (slotAt (x .site .slots) i .count ≤ mostOps)
+  small-sum = (
+    sum-bounded x w (f .right) (f .sound) c small-class,
+    held x w (f .right) (f .sound) id n (f .more) refl i (f .small) refl (f .used) (f .waits) .count,
+  )
+
+  pub done-within : (from : ℕ) → PlaceOf (x .site) c i from → slotAt (x .site .slots) i .done ≤ slotAt (x .site .slots) i .count
+  done-within from p =
+      subst (λ (j : ℕ). j < 128 → slotAt (x .site .slots) j .done ≤ slotAt (x .site .slots) j .count) (p .is)
+      (countable x w (f .right) (f .sound) c small-class .within from (p .within)) (f .small)
 
   pub some-queued : 0 < lenOf (x .site) c
   some-queued = queue-some x w (f .right) (f .sound) id n (f .more) refl i (f .small) refl (f .used) (f .waits)

@@ -6,6 +6,7 @@ use mathlib.Core.Logic.{_⊎_}
 use mathlib.Core.Bool.{true}
 use mathlib.Core.List.{List}
 use lib.ListN.{getD}
+use Rattle.plain.specs.Sizes.{mostW}
 use Rattle.plain.specs.Steps as K
 use Rattle.plain.specs.Site as S
 use Rattle.plain.specs.Site.{named}
@@ -54,6 +55,9 @@ module _ (x : State) (w : Shaped (x .site)) (m : ℕ) (small : m < 2 ^ 16) (firs
 
     pub fits : getD firsts c 0 ≤ lenOf t c
     fits = T.to-fits (counted (x .site)) t (x .committed) (x .working) wrk′ m p (x .site .confirmations) c firsts ready u l index here (f .right .0)
+
+    pub few-sum : getD (t .sums) c 0 ≤ mostW
+    few-sum = T.sum-here (counted (x .site)) t (x .committed) (x .working) wrk′ m p (x .site .confirmations) c firsts ready u l index here (f .right .0)
 
     pub may-back : getD firsts c 0 ≡ 0 → (lenOf t c ≡ 0 → ⊥) → Backable t (x .committed) wrk′ c
     may-back = T.may-back (counted (x .site)) t (x .committed) (x .working) wrk′ m p (x .site .confirmations) c firsts ready u l index here (f .right .0)

@@ -25,7 +25,7 @@ struct Found {
 
 impl Site {
     // The place in class c's queue at which slot i stands.
-    fn place_of(self, c: usize, i: usize) -> usize
+    pub(crate) fn place_of(self, c: usize, i: usize) -> usize
         requires { ⌜ InQueue (store self) c i ⌝ }
         ensures { λ r. ⌜ PlaceOf (store self) c i r ⌝ }
     {
@@ -97,7 +97,8 @@ impl Site {
         v.done == v.count
     }
 
-    // Confirms the request in slot i, which waits and is no executed head: it moves forward from one place to another.
+    // Confirms the request in slot i, which waits and is no executed head: it moves forward from one place to another. W is the class's sum with what the
+    // request still takes, and becomes the sum.
     fn confirm_later(
         mut self,
         committed: &[u32],
@@ -113,29 +114,31 @@ impl Site {
         let v = self.slots[i];
         let c = v.class as usize;
         let first = self.queue[CLASS_PLACES * c] as usize;
+        let left = v.count - v.done;
+        let w = self.sums[c] + (left as u16);
         if first != i {
             if to == 0 {
                 let head = self.slots[first];
                 self = self.put_back(committed, working, c);
                 self = self.forward(c, i, from, to);
-                let w = self.to_do(c, i);
+                self.sums[c] = w;
                 return Reply {
                     site: self,
                     answer: Answer::Waiting {
                         id: v.id,
-                        w: w,
+                        w: w as u32,
                         back: head.id,
                     },
                 };
             }
         }
         self = self.forward(c, i, from, to);
-        let w = self.to_do(c, i);
+        self.sums[c] = w;
         Reply {
             site: self,
             answer: Answer::Waiting {
                 id: v.id,
-                w: w,
+                w: w as u32,
                 back: 0,
             },
         }

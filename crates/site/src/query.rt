@@ -36,7 +36,7 @@ impl Site {
         0
     }
 
-    // Begins a query at the lowest free place: its entries stand before the first waiting request of each class.
+    // Begins a query at the lowest free place: its entries stand before the first waiting request of each class, and each counts one in the class's sum.
     fn begin(
         mut self,
         committed: &[u32],
@@ -55,6 +55,7 @@ impl Site {
             if names(mask, c as u32) {
                 let to = firsts[c];
                 let len = self.lens[c];
+                let sum = self.sums[c];
                 if to == 0 {
                     if len != 0 {
                         cells::copy_class(working, committed, c);
@@ -68,6 +69,7 @@ impl Site {
                 places::move_forward(&mut self.queue, c, len as usize, to);
                 let q = self.queries[p];
                 self.queries[p] = with(q, c as u32, self.confirmations);
+                self.sums[c] = sum + 1;
             }
             c += 1;
         }

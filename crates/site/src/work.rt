@@ -1,5 +1,8 @@
 // Work: the head of a class does its next operation, and commits when it has done its last and is confirmed; a head that is an entry of a query is read.
-ghost use Prim.Native.Nat.{_<_, _≤_};
+ghost use mathlib.Core.Path.{_≡_};
+ghost use mathlib.Core.Bool.{cond};
+ghost use Prim.Native.Nat.{_-_, _<_, _≤_};
+ghost use lib.Dec.{ltb};
 ghost use Rattle.plain.specs.Site.{work};
 ghost use Rattle.store.specs.Steps.{Commitable, CommitDone, headSlot};
 ghost use Rattle.plain.specs.Decides.{Decides};
@@ -15,6 +18,19 @@ use queries::without;
 use slots::free_slot;
 use slots::steps::step;
 use usedmap::UsedMap;
+
+// The sum of a class after a work call of a request with this number: one less where it is confirmed.
+fn one_less(sum: u16, number: u32) -> u16
+    ensures { λ r. ⌜ r ≡ sum - cond (ltb 0 number) 1 0 ⌝ }
+{
+    if number == 0 {
+        return sum;
+    }
+    if sum == 0 {
+        return 0;
+    }
+    sum - 1
+}
 
 impl Site {
     // The head of class c commits: its cells, its slot, its place, the count.
@@ -86,6 +102,7 @@ impl Site {
         let len = self.lens[c];
         places::take_head(&mut self.queue, c, len as usize);
         self.lens[c] = len - 1;
+        self.sums[c] = one_less(self.sums[c], 1);
         Reply {
             site: self,
             answer: Answer::Entry {
@@ -95,7 +112,7 @@ impl Site {
         }
     }
 
-    // The head of class c does its next operation, and commits if that was its last and it is confirmed.
+    // The head of class c does its next operation, and commits if that was its last and it is confirmed; the class's sum is one less where it is.
     fn work_head(mut self, committed: &mut [u32], working: &mut [u32], c: usize) -> Reply
         requires { ⌜ MayWork (stateOf self (now committed) (now working)) c × (headSlot (store self) c < 128) ⌝ }
         ensures { λ r. ⌜ Did (stateOf self (now (committed .entry)) (now (working .entry))) (work c) (stateOf (r .site) (now (committed .exit)) (now (working .exit))) (answerOf (r .answer) (now (committed .exit))) ⌝ }
@@ -107,6 +124,7 @@ impl Site {
         let b = a + cells::CELLS;
         let u = step(v, &committed[a..b], &mut working[a..b]);
         self.slots[i] = u;
+        self.sums[c] = one_less(self.sums[c], v.number);
         if u.done < u.count {
             return Reply {
                 site: self,

@@ -27,6 +27,7 @@ use Rattle.store.specs.Steps.{FirstsWaiting}
 use Rattle.store.specs.Calls.{State, RightCells, SoundState, plainOf, Did}
 use Rattle.store.proofs.Canonical.{places-length}
 use Rattle.store.proofs.Confirmed.{split-order}
+use Rattle.store.proofs.Ending.{sum-bounded}
 use Rattle.store.proofs.Meant.{to-plain}
 use Rattle.store.proofs.Moving.{Confirmed}
 use Rattle.store.proofs.Offered.{accepted-call}
@@ -46,6 +47,7 @@ counted s = record {
   kept = s .kept;
   queries = s .queries;
   begun = s .begun + 1;
+  sums = s .sums;
 }
 
 -- an entry makes a queue one longer
@@ -90,6 +92,7 @@ module _ (x : State) (w : Shaped (x .site)) (r : RightCells x) (q : SoundState x
       queue-short (S.call (plainOf x) (S.query m) .site) (call-sound (plainOf x) (S.query m) sound-x) d l,
       ap (λ (k : Class). length (k .queue)) (after d t) ∙ stepped d,
     );
+    few = λ d l. omega (arith, sum-bounded x w r q d l);
   }
     where
       sound-x : SoundSite (plainOf x)
@@ -128,6 +131,7 @@ module _ (x : State) (w : Shaped (x .site)) (r : RightCells x) (q : SoundState x
       kept = w .kept;
       queries = w .queries;
       masks = w .masks;
+      sums = w .sums;
     };
     cells = r .1;
     backs = λ i l. omega (arith, q .backs-bounded i l);
@@ -140,5 +144,5 @@ module _ (x : State) (w : Shaped (x .site)) (r : RightCells x) (q : SoundState x
   begun-is small some t wrk′ u =
       let taken = query-taken x w r q m small some (rw is at free) more in
       let place : S.freePlace (plainOf x) ≡ suc p = taken .1 ∙ ap suc (sym is) in
-      rw (add-one p) (query-did x (record { site = t; committed = x .committed; working = wrk′ }) w m p r (r .0, u .cells) q (counted (x .site)) (refl, refl, refl, refl)
+      rw (add-one p) (query-did x (record { site = t; committed = x .committed; working = wrk′ }) w m p r (r .0, u .cells) q (counted (x .site)) (refl, refl, refl, refl, refl)
       (λ d l. refl) place (taken .0) (u .shape .slots, u .shape .queries) refl (u .upto))

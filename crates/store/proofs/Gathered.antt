@@ -20,7 +20,7 @@ use Rattle.queries.specs.declared.Query.{Query}
 use Rattle.queries.specs.Table.{freeQuery}
 use Rattle.store.specs.Sound.{BacksOk, SlotsOk}
 use Rattle.store.specs.Checks.{Owned, Staged, Lined, Classed, KeptOk, LaidIn, LaidOut, SlotsIn, Unnumbered}
-use Rattle.store.specs.Checks.{classesOf, doneIn, idsOf, lineAt, lineIn, markIn, nth, numbersOf}
+use Rattle.store.specs.Checks.{classesOf, doneIn, due, dueIn, idsOf, lineAt, lineIn, markIn, nth, numbersOf}
 use Rattle.store.proofs.Canonical.{has-class, has-id}
 
 -- one field of the first i slots
@@ -110,31 +110,34 @@ module _ (at : ℕ → ℕ) where
   ) n
 
 -- all of them: of the first i slots, and the lines of the first j places
-pub record StageTo (l : List Slot) (table : List Query) (numbers lines dones marks : List ℕ) (i j : ℕ) : Type 0 where
+pub record StageTo (l : List Slot) (table : List Query) (numbers lines dones marks dues : List ℕ) (i j : ℕ) : Type 0 where
   pub number : GatheredTo l (λ v. v .number) numbers i
   pub line : LinedTo (lineIn l table) lines j
   pub done : FilledTo (doneIn l) dones i 0
   pub mark : FilledTo (markIn l) marks i 0
+  pub due-is : FilledTo (dueIn l) dues i 1
 
-pub stage-none : (l : List Slot) (table : List Query) → StageTo l table (replicate 128 0) (replicate 136 0) (replicate 136 0) (replicate 136 0) 0 0
+pub stage-none : (l : List Slot) (table : List Query) → StageTo l table (replicate 128 0) (replicate 136 0) (replicate 136 0) (replicate 136 0) (replicate 136 1) 0 0
 stage-none l table = record {
   number = none-gathered l (λ v. v .number);
   line = filled-none (lineIn l table) 0 .0;
   done = filled-none (doneIn l) 0;
   mark = filled-none (markIn l) 0;
+  due-is = filled-none (dueIn l) 1;
 }
 
-module _ (l : List Slot) (table : List Query) (numbers lines dones marks : List ℕ) (i j : ℕ) (h : StageTo l table numbers lines dones marks i j) where
-  pub stage-more : i < 128 → j ≡ i
-      → StageTo l table (set numbers i (slotAt l i .number)) (set lines i (slotAt l i .number)) (set dones i (slotAt l i .done)) (set marks i (slotAt l i .mark)) (i + 1) (i + 1)
-  stage-more m q = record {
+module _ (l : List Slot) (table : List Query) (numbers lines dones marks dues : List ℕ) (i j : ℕ) (h : StageTo l table numbers lines dones marks dues i j) where
+  pub stage-more : i < 128 → j ≡ i → (x : ℕ) → x ≡ due (slotAt l i .number) (slotAt l i .count) (slotAt l i .done)
+      → StageTo l table (set numbers i (slotAt l i .number)) (set lines i (slotAt l i .number)) (set dones i (slotAt l i .done)) (set marks i (slotAt l i .mark)) (set dues i x) (i + 1) (i + 1)
+  stage-more m q x e = record {
     number = one-gathered l (λ v. v .number) numbers i m (h .number);
     line = lined-more (lineIn l table) lines i (slotAt l i .number) (omega arith) (rw q at (h .line)) (rw (lt-ltb i 128 m));
     done = filled-more (doneIn l) dones i (slotAt l i .done) 0 (omega arith) (h .done) (rw (lt-ltb i 128 m));
     mark = filled-more (markIn l) marks i (slotAt l i .mark) 0 (omega arith) (h .mark) (rw (lt-ltb i 128 m));
+    due-is = filled-more (dueIn l) dues i x 1 (omega arith) (h .due-is) (e ∙ rw (lt-ltb i 128 m));
   }
 
-  pub line-more : (p : ℕ) → p < 8 → j ≡ 128 + p → StageTo l table numbers (set lines (128 + p) (queryAt table p .begun)) dones marks i (128 + (p + 1))
+  pub line-more : (p : ℕ) → p < 8 → j ≡ 128 + p → StageTo l table numbers (set lines (128 + p) (queryAt table p .begun)) dones marks dues i (128 + (p + 1))
   line-more p m q =
       let s : 128 + p - 128 ≡ p = omega arith in
       let n : 128 + p + 1 ≡ 128 + (p + 1) = omega arith in
@@ -143,15 +146,17 @@ module _ (l : List Slot) (table : List Query) (numbers lines dones marks : List 
         line = rw n at (lined-more (lineIn l table) lines (128 + p) (queryAt table p .begun) (omega arith) (rw q at (h .line)) (rw (le-ltb (128 + p) 128 (omega arith), s)));
         done = h .done;
         mark = h .mark;
+        due-is = h .due-is;
       }
 
-  pub stage-all : length l ≡ 128 → length table ≡ 8 → 128 ≤ i → 136 ≤ j → Staged l numbers × Lined l table lines dones marks
+  pub stage-all : length l ≡ 128 → length table ≡ 8 → 128 ≤ i → 136 ≤ j → Staged l numbers × Lined l table lines dones marks dues
   stage-all n m a b = (
     record { number = all-gathered l (λ v. v .number) numbers i n refl a (h .number) },
     record {
       line = lined-all (lineIn l table) lines j b (h .line) (λ k o. rw (le-ltb k 128 (omega arith)) (ap (λ (v : Query). v .begun) (List·getD-eq-default table freeQuery (omega arith))));
       done = filled-all (doneIn l) dones i 0 a (h .done) (λ k o _. rw (le-ltb k 128 o)) (λ k o. rw (le-ltb k 128 (omega arith)));
       mark = filled-all (markIn l) marks i 0 a (h .mark) (λ k o _. rw (le-ltb k 128 o)) (λ k o. rw (le-ltb k 128 (omega arith)));
+      due = filled-all (dueIn l) dues i 1 a (h .due-is) (λ k o u. rw (le-ltb k 128 o, lt-ltb k 136 u)) (λ k o. rw (le-ltb k 128 (omega arith), le-ltb k 136 o));
     },
   )
 
@@ -180,22 +185,22 @@ classed-of s ok i l = go (ok i l)
     go (inr h) = has-class (slotAt (s .slots) i) h
 
 -- the lists that the check gathers hold the fields of a site's slots and queries
-pub record Gathered (s : Store) (ids classes numbers lines dones marks : List ℕ) : Type 0 where
+pub record Gathered (s : Store) (ids classes numbers lines dones marks dues : List ℕ) : Type 0 where
   pub owned : Owned (s .slots) ids classes
   pub staged : Staged (s .slots) numbers
-  pub lined : Lined (s .slots) (s .queries) lines dones marks
+  pub lined : Lined (s .slots) (s .queries) lines dones marks dues
 
-pub gathered : (s : Store) {ids classes numbers lines dones marks : List ℕ} → Owned (s .slots) ids classes
-    → Staged (s .slots) numbers × Lined (s .slots) (s .queries) lines dones marks → Gathered s ids classes numbers lines dones marks
+pub gathered : (s : Store) {ids classes numbers lines dones marks dues : List ℕ} → Owned (s .slots) ids classes
+    → Staged (s .slots) numbers × Lined (s .slots) (s .queries) lines dones marks dues → Gathered s ids classes numbers lines dones marks dues
 gathered s o g = record { owned = o; staged = g .0; lined = g .1 }
 
 -- a test of the rules of a site, with these for the fields
-abbrev Laying : Bool → Store → (id class number line done mark : ℕ → ℕ) → Type 0
-Laying b s id class number line done mark =
-    Decides b (LaidOut id class number line done mark (s .queue) (s .lens) (s .queries) (s .low) (s .high) (s .confirmations) (s .commits))
+abbrev Laying : Bool → Store → (id class number line done mark due : ℕ → ℕ) → Type 0
+Laying b s id class number line done mark due =
+    Decides b (LaidOut id class number line done mark due (s .queue) (s .lens) (s .sums) (s .queries) (s .low) (s .high) (s .confirmations) (s .commits))
 
 -- the rules over the lists are those over the slots and queries
-module _ (s : Store) (w : Shaped s) {ids classes numbers lines dones marks : List ℕ} (g : Gathered s ids classes numbers lines dones marks) where
+module _ (s : Store) (w : Shaped s) {ids classes numbers lines dones marks dues : List ℕ} (g : Gathered s ids classes numbers lines dones marks dues) where
   pub classed : SlotsOk s → Classed (nth classes)
   classed ok = subst Classed (sym (g .owned .class)) (classed-of s ok)
 
@@ -205,14 +210,15 @@ module _ (s : Store) (w : Shaped s) {ids classes numbers lines dones marks : Lis
       (subst (Unnumbered (idsOf (s .slots))) (sym (g .staged .number)) (unnumbered-of s (w .slots) ok))
 
   module _ {b : Bool} where
-    pub laid-is : Laying b s (nth ids) (nth classes) (nth numbers) (nth lines) (nth dones) (nth marks) → Decides b (LaidIn s)
+    pub laid-is : Laying b s (nth ids) (nth classes) (nth numbers) (nth lines) (nth dones) (nth marks) (nth dues) → Decides b (LaidIn s)
     laid-is d =
-        subst (λ (f : ℕ → ℕ). Laying b s f (classesOf (s .slots)) (numbersOf (s .slots)) (lineAt s) (doneIn (s .slots)) (markIn (s .slots))) (g .owned .id)
-        (subst (λ (f : ℕ → ℕ). Laying b s (nth ids) f (numbersOf (s .slots)) (lineAt s) (doneIn (s .slots)) (markIn (s .slots))) (g .owned .class)
-        (subst (λ (f : ℕ → ℕ). Laying b s (nth ids) (nth classes) f (lineAt s) (doneIn (s .slots)) (markIn (s .slots))) (g .staged .number)
-        (subst (λ (f : ℕ → ℕ). Laying b s (nth ids) (nth classes) (nth numbers) f (doneIn (s .slots)) (markIn (s .slots))) (g .lined .line)
-        (subst (λ (f : ℕ → ℕ). Laying b s (nth ids) (nth classes) (nth numbers) (nth lines) f (markIn (s .slots))) (g .lined .done)
-        (subst (λ (f : ℕ → ℕ). Laying b s (nth ids) (nth classes) (nth numbers) (nth lines) (nth dones) f) (g .lined .mark) d)))))
+        subst (λ (f : ℕ → ℕ). Laying b s f (classesOf (s .slots)) (numbersOf (s .slots)) (lineAt s) (doneIn (s .slots)) (markIn (s .slots)) (dueIn (s .slots))) (g .owned .id)
+        (subst (λ (f : ℕ → ℕ). Laying b s (nth ids) f (numbersOf (s .slots)) (lineAt s) (doneIn (s .slots)) (markIn (s .slots)) (dueIn (s .slots))) (g .owned .class)
+        (subst (λ (f : ℕ → ℕ). Laying b s (nth ids) (nth classes) f (lineAt s) (doneIn (s .slots)) (markIn (s .slots)) (dueIn (s .slots))) (g .staged .number)
+        (subst (λ (f : ℕ → ℕ). Laying b s (nth ids) (nth classes) (nth numbers) f (doneIn (s .slots)) (markIn (s .slots)) (dueIn (s .slots))) (g .lined .line)
+        (subst (λ (f : ℕ → ℕ). Laying b s (nth ids) (nth classes) (nth numbers) (nth lines) f (markIn (s .slots)) (dueIn (s .slots))) (g .lined .done)
+        (subst (λ (f : ℕ → ℕ). Laying b s (nth ids) (nth classes) (nth numbers) (nth lines) (nth dones) f (dueIn (s .slots))) (g .lined .mark)
+        (subst (λ (f : ℕ → ℕ). Laying b s (nth ids) (nth classes) (nth numbers) (nth lines) (nth dones) (nth marks) f) (g .lined .due) d))))))
 
     pub kept-is : Decides b (KeptOk (nth ids) (nth numbers) (s .confirmations) (s .kept))
         → Decides b (KeptOk (idsOf (s .slots)) (numbersOf (s .slots)) (s .confirmations) (s .kept))

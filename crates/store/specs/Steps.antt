@@ -33,6 +33,7 @@ placed s c i v lo hi = record {
   kept = s .kept;
   queries = s .queries;
   begun = s .begun;
+  sums = s .sums;
 }
 
 -- slot i takes v, and nothing else changes
@@ -48,6 +49,23 @@ withSlot s i v = record {
   kept = s .kept;
   queries = s .queries;
   begun = s .begun;
+  sums = s .sums;
+}
+
+-- the sums are these, and nothing else changes
+abbrev pub withSums : Store → List ℕ → Store
+withSums s sums = record {
+  slots = s .slots;
+  queue = s .queue;
+  lens = s .lens;
+  low = s .low;
+  high = s .high;
+  confirmations = s .confirmations;
+  commits = s .commits;
+  kept = s .kept;
+  queries = s .queries;
+  begun = s .begun;
+  sums = sums;
 }
 
 -- what stands at the head of class c: a slot, or from 128 on a query
@@ -75,6 +93,7 @@ pub record CommitDone (s : Store) (base wrk : List ℕ) (c : ℕ) (t : Store) (b
   pub cells : length base′ ≡ 1024
   pub site : (e : Q.Entry) → Same (plain t base′ wrk) (S.inClass (plain s base wrk) c none (K.commit (Q.booking e) (items (s .slots) (s .queries) (drop 1 (places s c))) (cellsOf wrk c)) .site)
   pub queries : t .queries ≡ s .queries
+  pub sums : t .sums ≡ s .sums
 
 -- the work calls that what stands at queue place b still takes: one for each operation of a request still to do; an entry of a query is read by one
 abbrev pub leftAt : List Slot → ℕ → ℕ
@@ -124,6 +143,7 @@ numberedStore s i n = record {
   kept = set (s .kept) (n % keptCount) (slotAt (s .slots) i .id);
   queries = s .queries;
   begun = s .begun;
+  sums = s .sums;
 }
 
 -- the place of slot i in class c's queue
@@ -145,6 +165,11 @@ FirstWaiting s c p = WaitsFrom (λ i. slotAt (s .slots) i .number) (s .queue) (1
 abbrev pub FirstsWaiting : Store → List ℕ → Type 0
 FirstsWaiting s ends = (c : ℕ) → c < 16 → FirstWaiting s c (getD ends c 0)
 
+-- what stands at place p of class c's queue is the last of the confirmed part, if it is confirmed: behind it stands nothing, or a request that waits
+abbrev pub EndsPart : Store → ℕ → ℕ → Type 0
+EndsPart s c p =
+    p + 1 < lenOf s c → (getD (s .queue) (136 * c + (p + 1)) 0 < 128) × (slotAt (s .slots) (getD (s .queue) (136 * c + (p + 1)) 0) .number ≡ 0)
+
 -- slot i of class c has its number, its place `from` has moved forward to `to`, its id is kept, and one confirmation more is counted
 pub record Forward (s : Store) (c i n from to : ℕ) (t : Store) : Type 0 where
   pub slots : t .slots ≡ numberedStore s i n .slots
@@ -156,3 +181,4 @@ pub record Forward (s : Store) (c i n from to : ℕ) (t : Store) : Type 0 where
   pub kept : t .kept ≡ numberedStore s i n .kept
   pub queries : t .queries ≡ s .queries
   pub begun : t .begun ≡ s .begun
+  pub sums : t .sums ≡ numberedStore s i n .sums

@@ -39,20 +39,27 @@ in-order-requires c κs = let lens-short· = c .before .before .before .before .
 returns-6 : tie.Need-returns-6
 returns-6 c = decides-false (λ h. c .before .in-order .ensures .no (not-true _ (c .if6 .taken)) (h .places))
 
+sums-right-requires : tie.Need-sums-right-requires
+sums-right-requires c κs = let lens-short· = c .before .before .before .before .before .before .before .before .before .before .before .lens-short in let if1· = c .before .before .before .before .before .before .before .before .before .before .if1 in let args· = c .before .before .before .before .before .before .before .before .before .before .before .before .args in let pre· = c .before .before .before .before .before .before .before .before .before .before .before .before .pre in (lens-short· .ensures .yes (not-false _ (if1· .left)), range-of (flagOf (args· .low) (args· .high)) (nth (args· .classes .now)) (args· .table) (args· .queue .now) (args· .lens .now) (pre· .0) (pre· .1) (lens-short· .ensures .yes (not-false _ (if1· .left))) (c .before .before .before .before .before .each-once .ensures .yes (not-false _ (c .before .before .before .before .if4 .left))))
+
 returns-7 : tie.Need-returns-7
-returns-7 c = decides-false (λ h. c .before .free-zero .ensures .no (not-true _ (c .if7 .taken)) (h .free-zero))
+returns-7 c = decides-false (λ h. c .before .sums-right .ensures .no (not-true _ (c .if7 .taken)) (h .sums-right))
 
 returns-8 : tie.Need-returns-8
-returns-8 c = let map-agrees· = c .before .before .before .before .before .before .before .before .before .before .map-agrees in let if3· = c .before .before .before .before .before .before .before .before .before .if3 in let args· = c .before .before .before .before .before .before .before .before .before .before .before .before .before .before .before .args in let numbered· = c .numbered in
+returns-8 c = decides-false (λ h. c .before .free-zero .ensures .no (not-true _ (c .if8 .taken)) (h .free-zero))
+
+returns-9 : tie.Need-returns-9
+returns-9 c = let map-agrees· = c .before .before .before .before .before .before .before .before .before .before .before .before .map-agrees in let if3· = c .before .before .before .before .before .before .before .before .before .before .before .if3 in let args· = c .before .before .before .before .before .before .before .before .before .before .before .before .before .before .before .before .before .args in let numbered· = c .numbered in
     decides-as
     (λ e. record {
-      short = c .before .before .before .before .before .before .before .before .before .before .before .before .before .before .lens-short .ensures .yes (not-false _ (c .before .before .before .before .before .before .before .before .before .before .before .before .before .if1 .left));
-      tails = c .before .before .before .before .before .before .before .before .before .before .before .before .tails-zero .ensures .yes (not-false _ (c .before .before .before .before .before .before .before .before .before .before .before .if2 .left));
+      short = c .before .before .before .before .before .before .before .before .before .before .before .before .before .before .before .before .lens-short .ensures .yes (not-false _ (c .before .before .before .before .before .before .before .before .before .before .before .before .before .before .before .if1 .left));
+      tails = c .before .before .before .before .before .before .before .before .before .before .before .before .before .before .tails-zero .ensures .yes (not-false _ (c .before .before .before .before .before .before .before .before .before .before .before .before .before .if2 .left));
       map = map-agrees· .ensures .yes (not-false _ (if3· .left));
-      once = once-by-ids (args· .low) (args· .high) (nth (args· .ids .now)) (nth (args· .classes .now)) (args· .table) (args· .queue .now) (args· .lens .now) (map-agrees· .ensures .yes (not-false _ (if3· .left))) (c .before .before .before .before .before .before .before .before .each-once .ensures) .yes (not-false _ (c .before .before .before .before .before .before .before .if4 .left));
-      differ = c .before .before .before .before .before .before .pairs-differ .ensures .yes (not-false _ (c .before .before .before .before .before .if5 .left));
-      places = c .before .before .before .before .in-order .ensures .yes (not-false _ (c .before .before .before .if6 .left));
-      free-zero = c .before .before .free-zero .ensures .yes (not-false _ (c .before .if7 .left));
+      once = once-by-ids (args· .low) (args· .high) (nth (args· .ids .now)) (nth (args· .classes .now)) (args· .table) (args· .queue .now) (args· .lens .now) (map-agrees· .ensures .yes (not-false _ (if3· .left))) (c .before .before .before .before .before .before .before .before .before .before .each-once .ensures) .yes (not-false _ (c .before .before .before .before .before .before .before .before .before .if4 .left));
+      differ = c .before .before .before .before .before .before .before .before .pairs-differ .ensures .yes (not-false _ (c .before .before .before .before .before .before .before .if5 .left));
+      places = c .before .before .before .before .before .before .in-order .ensures .yes (not-false _ (c .before .before .before .before .before .if6 .left));
+      sums-right = c .before .before .before .before .sums-right .ensures .yes (not-false _ (c .before .before .before .if7 .left));
+      free-zero = c .before .before .free-zero .ensures .yes (not-false _ (c .before .if8 .left));
       tally = omega (arith, e, numbered· .ensures);
     })
     (λ h. omega (arith, h .tally, numbered· .ensures))
@@ -74,9 +81,11 @@ agree-spec =
     returns-5
     in-order-requires
     returns-6
-    (λ c κs. search needs)
+    sums-right-requires
     returns-7
     (λ c κs. search needs)
+    returns-8
+    (λ c κs. search needs)
     (λ c. search needs)
     (λ c. search needs)
-    returns-8)
+    returns-9)

@@ -8,9 +8,10 @@ use denote.Ref.{now}
 use Rattle.plain.specs.Site.{named}
 use Rattle.site.specs.Held.{store, stateOf}
 use Rattle.site.proofs.Shape.{shaped}
-use Rattle.site.proofs.Querying.{carried, index, at-first, at-last, room, fits, may-back, Put, put-none, put-head, turned}
+use Rattle.site.proofs.Querying.{carried, index, at-first, at-last, room, fits, few-sum, may-back, Put, put-none, put-head, turned}
 use mathlib.Core.Logic.{inl, inr, ⊎-elim}
 use mathlib.Core.List.{List}
+use lib.ListN.{getD, set}
 use Rattle.site.specs.declared.Site.{Site}
 use Rattle.store.specs.Steps.{withSlot, headSlot}
 use Rattle.store.proofs.Begins.{counted}
@@ -48,68 +49,74 @@ array-read-to c = let l· : c .before .before .before .loop .c < 16 = omega arit
 element-copy-out-len : tie.Need-element-copy-out-len Inv-loop μ-loop
 element-copy-out-len c = let l· : c .before .before .before .loop .c < 16 = omega arith in search needs
 
+mul-sum : tie.Need-mul-sum Inv-loop μ-loop
+mul-sum c = let l· : c .before .before .before .before .loop .c < 16 = omega arith in search needs
+
+element-copy-out-sum : tie.Need-element-copy-out-sum Inv-loop μ-loop
+element-copy-out-sum c = let l· : c .before .before .before .before .loop .c < 16 = omega arith in search needs
+
 copy-class-requires : tie.Need-copy-class-requires Inv-loop μ-loop
-copy-class-requires c κs = (c .before .before .before .before .before .before .before .loop .inv .1 .cells, c .before .before .before .before .before .before .before .before .before .before .before .before .pre .0 .right .0, omega arith)
+copy-class-requires c κs = (c .before .before .before .before .before .before .before .before .loop .inv .1 .cells, c .before .before .before .before .before .before .before .before .before .before .before .before .before .pre .0 .right .0, omega arith)
 
 mul-i : tie.Need-mul-i Inv-loop μ-loop
-mul-i c = let l· : c .before .before .before .before .before .before .before .before .before .before .loop .c < 16 = omega arith in search needs
+mul-i c = let l· : c .before .before .before .before .before .before .before .before .before .before .before .loop .c < 16 = omega arith in search needs
 
 element-copy-out-i : tie.Need-element-copy-out-i Inv-loop μ-loop
-element-copy-out-i c = let l· : c .before .before .before .before .before .before .before .before .before .before .loop .c < 16 = omega arith in search needs
+element-copy-out-i c = let l· : c .before .before .before .before .before .before .before .before .before .before .before .loop .c < 16 = omega arith in search needs
 
 cast-i : tie.Need-cast-i Inv-loop μ-loop
-cast-i c = let args· = c .before .before .before .before .before .before .before .before .before .before .before .before .before .before .before .before .args in let good· = c .before .before .before .before .before .before .before .before .before .before .before .before .before .before .before .before .good in let loop· = c .before .before .before .before .before .before .before .before .before .before .before .loop in let pre· = c .before .before .before .before .before .before .before .before .before .before .before .before .before .before .before .before .pre in let lowest-free· = c .before .before .before .before .before .before .before .before .before .before .before .before .lowest-free in
-    let x· = stateOf (args· .t1) (now (args· .committed)) (now (args· .working)) in
-    let w· = shaped (args· .t1) _ (good· .0) in
-    let small· : args· .mask < 2 ^ 16 = search needs in
-    let here· : named (args· .mask) (loop· .c) ≡ true = sym (c .before .before .before .before .before .before .before .before .before .names .ensures) ∙ c .before .before .before .before .before .before .before .before .if1 .taken in
-    let h· = may-back x· w· (args· .mask) small· (args· .t5) (pre· .0) (pre· .1) (omega (arith, good· .0)) (lowest-free· .result) (lowest-free· .ensures) (store (loop· .self)) (loop· .working) (loop· .c) (omega (arith, c .before .before .before .before .before .before .before .before .before .before .loop-test .taken)) (loop· .inv .1) here· (c .before .before .before .before .before .before .if2 .taken) (c .before .before .before .before .before .if3 .taken) .request in
-    record { fits = omega arith }
-
-mul-v : tie.Need-mul-v Inv-loop μ-loop
-mul-v c = let args· = c .before .before .before .before .before .before .before .before .before .before .before .before .before .before .before .before .args in let good· = c .before .before .before .before .before .before .before .before .before .before .before .before .before .before .before .before .good in let loop· = c .before .before .before .before .before .before .before .before .before .before .before .loop in let pre· = c .before .before .before .before .before .before .before .before .before .before .before .before .before .before .before .before .pre in let lowest-free· = c .before .before .before .before .before .before .before .before .before .before .before .before .lowest-free in
-    let x· = stateOf (args· .t1) (now (args· .committed)) (now (args· .working)) in
-    let w· = shaped (args· .t1) _ (good· .0) in
-    let small· : args· .mask < 2 ^ 16 = search needs in
-    let here· : named (args· .mask) (loop· .c) ≡ true = sym (c .before .before .before .before .before .before .before .before .before .names .ensures) ∙ c .before .before .before .before .before .before .before .before .if1 .taken in
-    let h· = may-back x· w· (args· .mask) small· (args· .t5) (pre· .0) (pre· .1) (omega (arith, good· .0)) (lowest-free· .result) (lowest-free· .ensures) (store (loop· .self)) (loop· .working) (loop· .c) (omega (arith, c .before .before .before .before .before .before .before .before .before .before .loop-test .taken)) (loop· .inv .1) here· (c .before .before .before .before .before .before .if2 .taken) (c .before .before .before .before .before .if3 .taken) .request in
-    record { fits = omega arith }
-
-element-copy-out-v : tie.Need-element-copy-out-v Inv-loop μ-loop
-element-copy-out-v c = let args· = c .before .before .before .before .before .before .before .before .before .before .before .before .before .before .before .before .args in let good· = c .before .before .before .before .before .before .before .before .before .before .before .before .before .before .before .before .good in let loop· = c .before .before .before .before .before .before .before .before .before .before .before .loop in let pre· = c .before .before .before .before .before .before .before .before .before .before .before .before .before .before .before .before .pre in let lowest-free· = c .before .before .before .before .before .before .before .before .before .before .before .before .lowest-free in
-    let x· = stateOf (args· .t1) (now (args· .committed)) (now (args· .working)) in
-    let w· = shaped (args· .t1) _ (good· .0) in
-    let small· : args· .mask < 2 ^ 16 = search needs in
-    let here· : named (args· .mask) (loop· .c) ≡ true = sym (c .before .before .before .before .before .before .before .before .before .names .ensures) ∙ c .before .before .before .before .before .before .before .before .if1 .taken in
-    may-back x· w· (args· .mask) small· (args· .t5) (pre· .0) (pre· .1) (omega (arith, good· .0)) (lowest-free· .result) (lowest-free· .ensures) (store (loop· .self)) (loop· .working) (loop· .c) (omega (arith, c .before .before .before .before .before .before .before .before .before .before .loop-test .taken)) (loop· .inv .1) here· (c .before .before .before .before .before .before .if2 .taken) (c .before .before .before .before .before .if3 .taken) .request
-
-backed-requires : tie.Need-backed-requires Inv-loop μ-loop
-backed-requires c κs = let args· = c .before .before .before .before .before .before .before .before .before .before .before .before .before .before .before .before .before .args in let good· = c .before .before .before .before .before .before .before .before .before .before .before .before .before .before .before .before .before .good in let loop· = c .before .before .before .before .before .before .before .before .before .before .before .before .loop in let pre· = c .before .before .before .before .before .before .before .before .before .before .before .before .before .before .before .before .before .pre in let lowest-free· = c .before .before .before .before .before .before .before .before .before .before .before .before .before .lowest-free in
+cast-i c = let args· = c .before .before .before .before .before .before .before .before .before .before .before .before .before .before .before .before .before .args in let good· = c .before .before .before .before .before .before .before .before .before .before .before .before .before .before .before .before .before .good in let loop· = c .before .before .before .before .before .before .before .before .before .before .before .before .loop in let pre· = c .before .before .before .before .before .before .before .before .before .before .before .before .before .before .before .before .before .pre in let lowest-free· = c .before .before .before .before .before .before .before .before .before .before .before .before .before .lowest-free in
     let x· = stateOf (args· .t1) (now (args· .committed)) (now (args· .working)) in
     let w· = shaped (args· .t1) _ (good· .0) in
     let small· : args· .mask < 2 ^ 16 = search needs in
     let here· : named (args· .mask) (loop· .c) ≡ true = sym (c .before .before .before .before .before .before .before .before .before .before .names .ensures) ∙ c .before .before .before .before .before .before .before .before .before .if1 .taken in
-    may-back x· w· (args· .mask) small· (args· .t5) (pre· .0) (pre· .1) (omega (arith, good· .0)) (lowest-free· .result) (lowest-free· .ensures) (store (loop· .self)) (loop· .working) (loop· .c) (omega (arith, c .before .before .before .before .before .before .before .before .before .before .before .loop-test .taken)) (loop· .inv .1) here· (c .before .before .before .before .before .before .before .if2 .taken) (c .before .before .before .before .before .before .if3 .taken) .fits
+    let h· = may-back x· w· (args· .mask) small· (args· .t5) (pre· .0) (pre· .1) (omega (arith, good· .0)) (lowest-free· .result) (lowest-free· .ensures) (store (loop· .self)) (loop· .working) (loop· .c) (omega (arith, c .before .before .before .before .before .before .before .before .before .before .before .loop-test .taken)) (loop· .inv .1) here· (c .before .before .before .before .before .before .if2 .taken) (c .before .before .before .before .before .if3 .taken) .request in
+    record { fits = omega arith }
 
-mul-t33 : tie.Need-mul-t33 Inv-loop μ-loop
-mul-t33 c = let args· = c .before .before .before .before .before .before .before .before .before .before .before .before .before .before .before .before .before .before .args in let good· = c .before .before .before .before .before .before .before .before .before .before .before .before .before .before .before .before .before .before .good in let loop· = c .before .before .before .before .before .before .before .before .before .before .before .before .before .loop in let pre· = c .before .before .before .before .before .before .before .before .before .before .before .before .before .before .before .before .before .before .pre in let lowest-free· = c .before .before .before .before .before .before .before .before .before .before .before .before .before .before .lowest-free in
+mul-v : tie.Need-mul-v Inv-loop μ-loop
+mul-v c = let args· = c .before .before .before .before .before .before .before .before .before .before .before .before .before .before .before .before .before .args in let good· = c .before .before .before .before .before .before .before .before .before .before .before .before .before .before .before .before .before .good in let loop· = c .before .before .before .before .before .before .before .before .before .before .before .before .loop in let pre· = c .before .before .before .before .before .before .before .before .before .before .before .before .before .before .before .before .before .pre in let lowest-free· = c .before .before .before .before .before .before .before .before .before .before .before .before .before .lowest-free in
+    let x· = stateOf (args· .t1) (now (args· .committed)) (now (args· .working)) in
+    let w· = shaped (args· .t1) _ (good· .0) in
+    let small· : args· .mask < 2 ^ 16 = search needs in
+    let here· : named (args· .mask) (loop· .c) ≡ true = sym (c .before .before .before .before .before .before .before .before .before .before .names .ensures) ∙ c .before .before .before .before .before .before .before .before .before .if1 .taken in
+    let h· = may-back x· w· (args· .mask) small· (args· .t5) (pre· .0) (pre· .1) (omega (arith, good· .0)) (lowest-free· .result) (lowest-free· .ensures) (store (loop· .self)) (loop· .working) (loop· .c) (omega (arith, c .before .before .before .before .before .before .before .before .before .before .before .loop-test .taken)) (loop· .inv .1) here· (c .before .before .before .before .before .before .if2 .taken) (c .before .before .before .before .before .if3 .taken) .request in
+    record { fits = omega arith }
+
+element-copy-out-v : tie.Need-element-copy-out-v Inv-loop μ-loop
+element-copy-out-v c = let args· = c .before .before .before .before .before .before .before .before .before .before .before .before .before .before .before .before .before .args in let good· = c .before .before .before .before .before .before .before .before .before .before .before .before .before .before .before .before .before .good in let loop· = c .before .before .before .before .before .before .before .before .before .before .before .before .loop in let pre· = c .before .before .before .before .before .before .before .before .before .before .before .before .before .before .before .before .before .pre in let lowest-free· = c .before .before .before .before .before .before .before .before .before .before .before .before .before .lowest-free in
+    let x· = stateOf (args· .t1) (now (args· .committed)) (now (args· .working)) in
+    let w· = shaped (args· .t1) _ (good· .0) in
+    let small· : args· .mask < 2 ^ 16 = search needs in
+    let here· : named (args· .mask) (loop· .c) ≡ true = sym (c .before .before .before .before .before .before .before .before .before .before .names .ensures) ∙ c .before .before .before .before .before .before .before .before .before .if1 .taken in
+    may-back x· w· (args· .mask) small· (args· .t5) (pre· .0) (pre· .1) (omega (arith, good· .0)) (lowest-free· .result) (lowest-free· .ensures) (store (loop· .self)) (loop· .working) (loop· .c) (omega (arith, c .before .before .before .before .before .before .before .before .before .before .before .loop-test .taken)) (loop· .inv .1) here· (c .before .before .before .before .before .before .if2 .taken) (c .before .before .before .before .before .if3 .taken) .request
+
+backed-requires : tie.Need-backed-requires Inv-loop μ-loop
+backed-requires c κs = let args· = c .before .before .before .before .before .before .before .before .before .before .before .before .before .before .before .before .before .before .args in let good· = c .before .before .before .before .before .before .before .before .before .before .before .before .before .before .before .before .before .before .good in let loop· = c .before .before .before .before .before .before .before .before .before .before .before .before .before .loop in let pre· = c .before .before .before .before .before .before .before .before .before .before .before .before .before .before .before .before .before .before .pre in let lowest-free· = c .before .before .before .before .before .before .before .before .before .before .before .before .before .before .lowest-free in
     let x· = stateOf (args· .t1) (now (args· .committed)) (now (args· .working)) in
     let w· = shaped (args· .t1) _ (good· .0) in
     let small· : args· .mask < 2 ^ 16 = search needs in
     let here· : named (args· .mask) (loop· .c) ≡ true = sym (c .before .before .before .before .before .before .before .before .before .before .before .names .ensures) ∙ c .before .before .before .before .before .before .before .before .before .before .if1 .taken in
-    let h· = may-back x· w· (args· .mask) small· (args· .t5) (pre· .0) (pre· .1) (omega (arith, good· .0)) (lowest-free· .result) (lowest-free· .ensures) (store (loop· .self)) (loop· .working) (loop· .c) (omega (arith, c .before .before .before .before .before .before .before .before .before .before .before .before .loop-test .taken)) (loop· .inv .1) here· (c .before .before .before .before .before .before .before .before .if2 .taken) (c .before .before .before .before .before .before .before .if3 .taken) .request in
+    may-back x· w· (args· .mask) small· (args· .t5) (pre· .0) (pre· .1) (omega (arith, good· .0)) (lowest-free· .result) (lowest-free· .ensures) (store (loop· .self)) (loop· .working) (loop· .c) (omega (arith, c .before .before .before .before .before .before .before .before .before .before .before .before .loop-test .taken)) (loop· .inv .1) here· (c .before .before .before .before .before .before .before .if2 .taken) (c .before .before .before .before .before .before .if3 .taken) .fits
+
+mul-t37 : tie.Need-mul-t37 Inv-loop μ-loop
+mul-t37 c = let args· = c .before .before .before .before .before .before .before .before .before .before .before .before .before .before .before .before .before .before .before .args in let good· = c .before .before .before .before .before .before .before .before .before .before .before .before .before .before .before .before .before .before .before .good in let loop· = c .before .before .before .before .before .before .before .before .before .before .before .before .before .before .loop in let pre· = c .before .before .before .before .before .before .before .before .before .before .before .before .before .before .before .before .before .before .before .pre in let lowest-free· = c .before .before .before .before .before .before .before .before .before .before .before .before .before .before .before .lowest-free in
+    let x· = stateOf (args· .t1) (now (args· .committed)) (now (args· .working)) in
+    let w· = shaped (args· .t1) _ (good· .0) in
+    let small· : args· .mask < 2 ^ 16 = search needs in
+    let here· : named (args· .mask) (loop· .c) ≡ true = sym (c .before .before .before .before .before .before .before .before .before .before .before .before .names .ensures) ∙ c .before .before .before .before .before .before .before .before .before .before .before .if1 .taken in
+    let h· = may-back x· w· (args· .mask) small· (args· .t5) (pre· .0) (pre· .1) (omega (arith, good· .0)) (lowest-free· .result) (lowest-free· .ensures) (store (loop· .self)) (loop· .working) (loop· .c) (omega (arith, c .before .before .before .before .before .before .before .before .before .before .before .before .before .loop-test .taken)) (loop· .inv .1) here· (c .before .before .before .before .before .before .before .before .if2 .taken) (c .before .before .before .before .before .before .before .if3 .taken) .request in
     record { fits = omega arith }
 
 element-set-from-self : tie.Need-element-set-from-self Inv-loop μ-loop
-element-set-from-self c = let args· = c .before .before .before .before .before .before .before .before .before .before .before .before .before .before .before .before .before .before .args in let good· = c .before .before .before .before .before .before .before .before .before .before .before .before .before .before .before .before .before .before .good in let loop· = c .before .before .before .before .before .before .before .before .before .before .before .before .before .loop in let pre· = c .before .before .before .before .before .before .before .before .before .before .before .before .before .before .before .before .before .before .pre in let lowest-free· = c .before .before .before .before .before .before .before .before .before .before .before .before .before .before .lowest-free in
+element-set-from-self c = let args· = c .before .before .before .before .before .before .before .before .before .before .before .before .before .before .before .before .before .before .before .args in let good· = c .before .before .before .before .before .before .before .before .before .before .before .before .before .before .before .before .before .before .before .good in let loop· = c .before .before .before .before .before .before .before .before .before .before .before .before .before .before .loop in let pre· = c .before .before .before .before .before .before .before .before .before .before .before .before .before .before .before .before .before .before .before .pre in let lowest-free· = c .before .before .before .before .before .before .before .before .before .before .before .before .before .before .before .lowest-free in
     let x· = stateOf (args· .t1) (now (args· .committed)) (now (args· .working)) in
     let w· = shaped (args· .t1) _ (good· .0) in
     let small· : args· .mask < 2 ^ 16 = search needs in
-    let here· : named (args· .mask) (loop· .c) ≡ true = sym (c .before .before .before .before .before .before .before .before .before .before .before .names .ensures) ∙ c .before .before .before .before .before .before .before .before .before .before .if1 .taken in
-    may-back x· w· (args· .mask) small· (args· .t5) (pre· .0) (pre· .1) (omega (arith, good· .0)) (lowest-free· .result) (lowest-free· .ensures) (store (loop· .self)) (loop· .working) (loop· .c) (omega (arith, c .before .before .before .before .before .before .before .before .before .before .before .before .loop-test .taken)) (loop· .inv .1) here· (c .before .before .before .before .before .before .before .before .if2 .taken) (c .before .before .before .before .before .before .before .if3 .taken) .request
+    let here· : named (args· .mask) (loop· .c) ≡ true = sym (c .before .before .before .before .before .before .before .before .before .before .before .before .names .ensures) ∙ c .before .before .before .before .before .before .before .before .before .before .before .if1 .taken in
+    may-back x· w· (args· .mask) small· (args· .t5) (pre· .0) (pre· .1) (omega (arith, good· .0)) (lowest-free· .result) (lowest-free· .ensures) (store (loop· .self)) (loop· .working) (loop· .c) (omega (arith, c .before .before .before .before .before .before .before .before .before .before .before .before .before .loop-test .taken)) (loop· .inv .1) here· (c .before .before .before .before .before .before .before .before .if2 .taken) (c .before .before .before .before .before .before .before .if3 .taken) .request
 
 cast-self : tie.Need-cast-self Inv-loop μ-loop
-cast-self c = let args· = c .before .before .before .before .before .before .before .before .before .before .args in let good· = c .before .before .before .before .before .before .before .before .before .before .good in let pre· = c .before .before .before .before .before .before .before .before .before .before .pre in let lowest-free· = c .before .before .before .before .before .before .lowest-free in
+cast-self c = let args· = c .before .before .before .before .before .before .before .before .before .before .before .args in let good· = c .before .before .before .before .before .before .before .before .before .before .before .good in let pre· = c .before .before .before .before .before .before .before .before .before .before .before .pre in let lowest-free· = c .before .before .before .before .before .before .before .lowest-free in
     let x· = stateOf (args· .t1) (now (args· .committed)) (now (args· .working)) in
     let w· = shaped (args· .t1) _ (good· .0) in
     let small· : args· .mask < 2 ^ 16 = search needs in
@@ -117,7 +124,7 @@ cast-self c = let args· = c .before .before .before .before .before .before .be
     record { fits = omega arith }
 
 add-self-2 : tie.Need-add-self-2 Inv-loop μ-loop
-add-self-2 c = let args· = c .before .before .before .before .before .before .before .before .before .before .args in let good· = c .before .before .before .before .before .before .before .before .before .before .good in let pre· = c .before .before .before .before .before .before .before .before .before .before .pre in let lowest-free· = c .before .before .before .before .before .before .lowest-free in
+add-self-2 c = let args· = c .before .before .before .before .before .before .before .before .before .before .before .args in let good· = c .before .before .before .before .before .before .before .before .before .before .before .good in let pre· = c .before .before .before .before .before .before .before .before .before .before .before .pre in let lowest-free· = c .before .before .before .before .before .before .before .lowest-free in
     let x· = stateOf (args· .t1) (now (args· .committed)) (now (args· .working)) in
     let w· = shaped (args· .t1) _ (good· .0) in
     let small· : args· .mask < 2 ^ 16 = search needs in
@@ -125,49 +132,10 @@ add-self-2 c = let args· = c .before .before .before .before .before .before .b
     record { fits = omega arith }
 
 mul-self : tie.Need-mul-self Inv-loop μ-loop
-mul-self c = let l· : c .before .before .before .before .before .loop .c < 16 = omega arith in search needs
+mul-self c = let l· : c .before .before .before .before .before .before .loop .c < 16 = omega arith in search needs
 
 cast-self-2 : tie.Need-cast-self-2 Inv-loop μ-loop
-cast-self-2 c = let args· = c .before .before .before .before .before .before .before .before .before .before .args in let good· = c .before .before .before .before .before .before .before .before .before .before .good in let loop· = c .before .before .before .before .before .loop in let pre· = c .before .before .before .before .before .before .before .before .before .before .pre in let lowest-free· = c .before .before .before .before .before .before .lowest-free in
-    let x· = stateOf (args· .t1) (now (args· .committed)) (now (args· .working)) in
-    let w· = shaped (args· .t1) _ (good· .0) in
-    let small· : args· .mask < 2 ^ 16 = search needs in
-    let here· : named (args· .mask) (loop· .c) ≡ true = sym (c .before .before .before .names .ensures) ∙ c .before .before .if1 .taken in
-    let r· = room x· w· (args· .mask) small· (args· .t5) (pre· .0) (pre· .1) (omega (arith, good· .0)) (lowest-free· .result) (lowest-free· .ensures) (store (loop· .self)) (loop· .working) (loop· .c) (omega (arith, c .before .before .before .before .loop-test .taken)) (loop· .inv .1) here· in
-    record { fits = omega arith }
-
-add-self-3 : tie.Need-add-self-3 Inv-loop μ-loop
-add-self-3 c = let args· = c .before .before .before .before .before .before .before .before .before .before .args in let good· = c .before .before .before .before .before .before .before .before .before .before .good in let loop· = c .before .before .before .before .before .loop in let pre· = c .before .before .before .before .before .before .before .before .before .before .pre in let lowest-free· = c .before .before .before .before .before .before .lowest-free in
-    let x· = stateOf (args· .t1) (now (args· .committed)) (now (args· .working)) in
-    let w· = shaped (args· .t1) _ (good· .0) in
-    let small· : args· .mask < 2 ^ 16 = search needs in
-    let here· : named (args· .mask) (loop· .c) ≡ true = sym (c .before .before .before .names .ensures) ∙ c .before .before .if1 .taken in
-    let r· = room x· w· (args· .mask) small· (args· .t5) (pre· .0) (pre· .1) (omega (arith, good· .0)) (lowest-free· .result) (lowest-free· .ensures) (store (loop· .self)) (loop· .working) (loop· .c) (omega (arith, c .before .before .before .before .loop-test .taken)) (loop· .inv .1) here· in
-    record { fits = omega arith }
-
-element-write-self : tie.Need-element-write-self Inv-loop μ-loop
-element-write-self c = let args· = c .before .before .before .before .before .before .before .before .before .before .args in let good· = c .before .before .before .before .before .before .before .before .before .before .good in let loop· = c .before .before .before .before .before .loop in let pre· = c .before .before .before .before .before .before .before .before .before .before .pre in let lowest-free· = c .before .before .before .before .before .before .lowest-free in
-    let x· = stateOf (args· .t1) (now (args· .committed)) (now (args· .working)) in
-    let w· = shaped (args· .t1) _ (good· .0) in
-    let small· : args· .mask < 2 ^ 16 = search needs in
-    let here· : named (args· .mask) (loop· .c) ≡ true = sym (c .before .before .before .names .ensures) ∙ c .before .before .if1 .taken in
-    let r· = room x· w· (args· .mask) small· (args· .t5) (pre· .0) (pre· .1) (omega (arith, good· .0)) (lowest-free· .result) (lowest-free· .ensures) (store (loop· .self)) (loop· .working) (loop· .c) (omega (arith, c .before .before .before .before .loop-test .taken)) (loop· .inv .1) here· in
-    omega arith
-
-add-self-4 : tie.Need-add-self-4 Inv-loop μ-loop
-add-self-4 c = let args· = c .before .before .before .before .before .before .before .before .before .before .args in let good· = c .before .before .before .before .before .before .before .before .before .before .good in let loop· = c .before .before .before .before .before .loop in let pre· = c .before .before .before .before .before .before .before .before .before .before .pre in let lowest-free· = c .before .before .before .before .before .before .lowest-free in
-    let x· = stateOf (args· .t1) (now (args· .committed)) (now (args· .working)) in
-    let w· = shaped (args· .t1) _ (good· .0) in
-    let small· : args· .mask < 2 ^ 16 = search needs in
-    let here· : named (args· .mask) (loop· .c) ≡ true = sym (c .before .before .before .names .ensures) ∙ c .before .before .if1 .taken in
-    let r· = room x· w· (args· .mask) small· (args· .t5) (pre· .0) (pre· .1) (omega (arith, good· .0)) (lowest-free· .result) (lowest-free· .ensures) (store (loop· .self)) (loop· .working) (loop· .c) (omega (arith, c .before .before .before .before .loop-test .taken)) (loop· .inv .1) here· in
-    record { fits = omega arith }
-
-element-write-self-2 : tie.Need-element-write-self-2 Inv-loop μ-loop
-element-write-self-2 c = let l· : c .before .before .before .before .before .loop .c < 16 = omega arith in search needs
-
-cast-move-forward : tie.Need-cast-move-forward Inv-loop μ-loop
-cast-move-forward c = let args· = c .before .before .before .before .before .before .before .before .before .before .before .args in let good· = c .before .before .before .before .before .before .before .before .before .before .before .good in let loop· = c .before .before .before .before .before .before .loop in let pre· = c .before .before .before .before .before .before .before .before .before .before .before .pre in let lowest-free· = c .before .before .before .before .before .before .before .lowest-free in
+cast-self-2 c = let args· = c .before .before .before .before .before .before .before .before .before .before .before .args in let good· = c .before .before .before .before .before .before .before .before .before .before .before .good in let loop· = c .before .before .before .before .before .before .loop in let pre· = c .before .before .before .before .before .before .before .before .before .before .before .pre in let lowest-free· = c .before .before .before .before .before .before .before .lowest-free in
     let x· = stateOf (args· .t1) (now (args· .committed)) (now (args· .working)) in
     let w· = shaped (args· .t1) _ (good· .0) in
     let small· : args· .mask < 2 ^ 16 = search needs in
@@ -175,16 +143,55 @@ cast-move-forward c = let args· = c .before .before .before .before .before .be
     let r· = room x· w· (args· .mask) small· (args· .t5) (pre· .0) (pre· .1) (omega (arith, good· .0)) (lowest-free· .result) (lowest-free· .ensures) (store (loop· .self)) (loop· .working) (loop· .c) (omega (arith, c .before .before .before .before .before .loop-test .taken)) (loop· .inv .1) here· in
     record { fits = omega arith }
 
-move-forward-requires : tie.Need-move-forward-requires Inv-loop μ-loop
-move-forward-requires c κs = let args· = c .before .before .before .before .before .before .before .before .before .before .before .args in let good· = c .before .before .before .before .before .before .before .before .before .before .before .good in let loop· = c .before .before .before .before .before .before .loop in let pre· = c .before .before .before .before .before .before .before .before .before .before .before .pre in let lowest-free· = c .before .before .before .before .before .before .before .lowest-free in let loop-test· = c .before .before .before .before .before .loop-test in
+add-self-3 : tie.Need-add-self-3 Inv-loop μ-loop
+add-self-3 c = let args· = c .before .before .before .before .before .before .before .before .before .before .before .args in let good· = c .before .before .before .before .before .before .before .before .before .before .before .good in let loop· = c .before .before .before .before .before .before .loop in let pre· = c .before .before .before .before .before .before .before .before .before .before .before .pre in let lowest-free· = c .before .before .before .before .before .before .before .lowest-free in
     let x· = stateOf (args· .t1) (now (args· .committed)) (now (args· .working)) in
     let w· = shaped (args· .t1) _ (good· .0) in
     let small· : args· .mask < 2 ^ 16 = search needs in
     let here· : named (args· .mask) (loop· .c) ≡ true = sym (c .before .before .before .before .names .ensures) ∙ c .before .before .before .if1 .taken in
+    let r· = room x· w· (args· .mask) small· (args· .t5) (pre· .0) (pre· .1) (omega (arith, good· .0)) (lowest-free· .result) (lowest-free· .ensures) (store (loop· .self)) (loop· .working) (loop· .c) (omega (arith, c .before .before .before .before .before .loop-test .taken)) (loop· .inv .1) here· in
+    record { fits = omega arith }
+
+element-write-self : tie.Need-element-write-self Inv-loop μ-loop
+element-write-self c = let args· = c .before .before .before .before .before .before .before .before .before .before .before .args in let good· = c .before .before .before .before .before .before .before .before .before .before .before .good in let loop· = c .before .before .before .before .before .before .loop in let pre· = c .before .before .before .before .before .before .before .before .before .before .before .pre in let lowest-free· = c .before .before .before .before .before .before .before .lowest-free in
+    let x· = stateOf (args· .t1) (now (args· .committed)) (now (args· .working)) in
+    let w· = shaped (args· .t1) _ (good· .0) in
+    let small· : args· .mask < 2 ^ 16 = search needs in
+    let here· : named (args· .mask) (loop· .c) ≡ true = sym (c .before .before .before .before .names .ensures) ∙ c .before .before .before .if1 .taken in
+    let r· = room x· w· (args· .mask) small· (args· .t5) (pre· .0) (pre· .1) (omega (arith, good· .0)) (lowest-free· .result) (lowest-free· .ensures) (store (loop· .self)) (loop· .working) (loop· .c) (omega (arith, c .before .before .before .before .before .loop-test .taken)) (loop· .inv .1) here· in
+    omega arith
+
+add-self-4 : tie.Need-add-self-4 Inv-loop μ-loop
+add-self-4 c = let args· = c .before .before .before .before .before .before .before .before .before .before .before .args in let good· = c .before .before .before .before .before .before .before .before .before .before .before .good in let loop· = c .before .before .before .before .before .before .loop in let pre· = c .before .before .before .before .before .before .before .before .before .before .before .pre in let lowest-free· = c .before .before .before .before .before .before .before .lowest-free in
+    let x· = stateOf (args· .t1) (now (args· .committed)) (now (args· .working)) in
+    let w· = shaped (args· .t1) _ (good· .0) in
+    let small· : args· .mask < 2 ^ 16 = search needs in
+    let here· : named (args· .mask) (loop· .c) ≡ true = sym (c .before .before .before .before .names .ensures) ∙ c .before .before .before .if1 .taken in
+    let r· = room x· w· (args· .mask) small· (args· .t5) (pre· .0) (pre· .1) (omega (arith, good· .0)) (lowest-free· .result) (lowest-free· .ensures) (store (loop· .self)) (loop· .working) (loop· .c) (omega (arith, c .before .before .before .before .before .loop-test .taken)) (loop· .inv .1) here· in
+    record { fits = omega arith }
+
+element-write-self-2 : tie.Need-element-write-self-2 Inv-loop μ-loop
+element-write-self-2 c = let l· : c .before .before .before .before .before .before .loop .c < 16 = omega arith in search needs
+
+cast-move-forward : tie.Need-cast-move-forward Inv-loop μ-loop
+cast-move-forward c = let args· = c .before .before .before .before .before .before .before .before .before .before .before .before .args in let good· = c .before .before .before .before .before .before .before .before .before .before .before .before .good in let loop· = c .before .before .before .before .before .before .before .loop in let pre· = c .before .before .before .before .before .before .before .before .before .before .before .before .pre in let lowest-free· = c .before .before .before .before .before .before .before .before .lowest-free in
+    let x· = stateOf (args· .t1) (now (args· .committed)) (now (args· .working)) in
+    let w· = shaped (args· .t1) _ (good· .0) in
+    let small· : args· .mask < 2 ^ 16 = search needs in
+    let here· : named (args· .mask) (loop· .c) ≡ true = sym (c .before .before .before .before .before .names .ensures) ∙ c .before .before .before .before .if1 .taken in
+    let r· = room x· w· (args· .mask) small· (args· .t5) (pre· .0) (pre· .1) (omega (arith, good· .0)) (lowest-free· .result) (lowest-free· .ensures) (store (loop· .self)) (loop· .working) (loop· .c) (omega (arith, c .before .before .before .before .before .before .loop-test .taken)) (loop· .inv .1) here· in
+    record { fits = omega arith }
+
+move-forward-requires : tie.Need-move-forward-requires Inv-loop μ-loop
+move-forward-requires c κs = let args· = c .before .before .before .before .before .before .before .before .before .before .before .before .args in let good· = c .before .before .before .before .before .before .before .before .before .before .before .before .good in let loop· = c .before .before .before .before .before .before .before .loop in let pre· = c .before .before .before .before .before .before .before .before .before .before .before .before .pre in let lowest-free· = c .before .before .before .before .before .before .before .before .lowest-free in let loop-test· = c .before .before .before .before .before .before .loop-test in
+    let x· = stateOf (args· .t1) (now (args· .committed)) (now (args· .working)) in
+    let w· = shaped (args· .t1) _ (good· .0) in
+    let small· : args· .mask < 2 ^ 16 = search needs in
+    let here· : named (args· .mask) (loop· .c) ≡ true = sym (c .before .before .before .before .before .names .ensures) ∙ c .before .before .before .before .if1 .taken in
     (fits x· w· (args· .mask) small· (args· .t5) (pre· .0) (pre· .1) (omega (arith, good· .0)) (lowest-free· .result) (lowest-free· .ensures) (store (loop· .self)) (loop· .working) (loop· .c) (omega (arith, loop-test· .taken)) (loop· .inv .1) here·, room x· w· (args· .mask) small· (args· .t5) (pre· .0) (pre· .1) (omega (arith, good· .0)) (lowest-free· .result) (lowest-free· .ensures) (store (loop· .self)) (loop· .working) (loop· .c) (omega (arith, loop-test· .taken)) (loop· .inv .1) here·, omega arith)
 
 mul-q : tie.Need-mul-q Inv-loop μ-loop
-mul-q c = let args· = c .before .before .before .before .before .before .before .before .before .before .before .before .args in let good· = c .before .before .before .before .before .before .before .before .before .before .before .before .good in let pre· = c .before .before .before .before .before .before .before .before .before .before .before .before .pre in let lowest-free· = c .before .before .before .before .before .before .before .before .lowest-free in
+mul-q c = let args· = c .before .before .before .before .before .before .before .before .before .before .before .before .before .args in let good· = c .before .before .before .before .before .before .before .before .before .before .before .before .before .good in let pre· = c .before .before .before .before .before .before .before .before .before .before .before .before .before .pre in let lowest-free· = c .before .before .before .before .before .before .before .before .before .lowest-free in
     let x· = stateOf (args· .t1) (now (args· .committed)) (now (args· .working)) in
     let w· = shaped (args· .t1) _ (good· .0) in
     let small· : args· .mask < 2 ^ 16 = search needs in
@@ -192,20 +199,20 @@ mul-q c = let args· = c .before .before .before .before .before .before .before
     record { fits = omega arith }
 
 element-copy-out-q : tie.Need-element-copy-out-q Inv-loop μ-loop
-element-copy-out-q c = let args· = c .before .before .before .before .before .before .before .before .before .before .before .before .args in let good· = c .before .before .before .before .before .before .before .before .before .before .before .before .good in let pre· = c .before .before .before .before .before .before .before .before .before .before .before .before .pre in let lowest-free· = c .before .before .before .before .before .before .before .before .lowest-free in
+element-copy-out-q c = let args· = c .before .before .before .before .before .before .before .before .before .before .before .before .before .args in let good· = c .before .before .before .before .before .before .before .before .before .before .before .before .before .good in let pre· = c .before .before .before .before .before .before .before .before .before .before .before .before .before .pre in let lowest-free· = c .before .before .before .before .before .before .before .before .before .lowest-free in
     let x· = stateOf (args· .t1) (now (args· .committed)) (now (args· .working)) in
     let w· = shaped (args· .t1) _ (good· .0) in
     let small· : args· .mask < 2 ^ 16 = search needs in
     index x· w· (args· .mask) small· (args· .t5) (pre· .0) (pre· .1) (omega (arith, good· .0)) (lowest-free· .result) (lowest-free· .ensures)
 
 cast-with : tie.Need-cast-with Inv-loop μ-loop
-cast-with c = let l· : c .before .before .before .before .before .before .before .before .loop .c < 16 = omega arith in search needs
+cast-with c = let l· : c .before .before .before .before .before .before .before .before .before .loop .c < 16 = omega arith in search needs
 
 with-requires : tie.Need-with-requires Inv-loop μ-loop
 with-requires c κs = omega arith
 
-mul-t43 : tie.Need-mul-t43 Inv-loop μ-loop
-mul-t43 c = let args· = c .before .before .before .before .before .before .before .before .before .before .before .before .before .before .args in let good· = c .before .before .before .before .before .before .before .before .before .before .before .before .before .before .good in let pre· = c .before .before .before .before .before .before .before .before .before .before .before .before .before .before .pre in let lowest-free· = c .before .before .before .before .before .before .before .before .before .before .lowest-free in
+mul-t47 : tie.Need-mul-t47 Inv-loop μ-loop
+mul-t47 c = let args· = c .before .before .before .before .before .before .before .before .before .before .before .before .before .before .before .args in let good· = c .before .before .before .before .before .before .before .before .before .before .before .before .before .before .before .good in let pre· = c .before .before .before .before .before .before .before .before .before .before .before .before .before .before .before .pre in let lowest-free· = c .before .before .before .before .before .before .before .before .before .before .before .lowest-free in
     let x· = stateOf (args· .t1) (now (args· .committed)) (now (args· .working)) in
     let w· = shaped (args· .t1) _ (good· .0) in
     let small· : args· .mask < 2 ^ 16 = search needs in
@@ -213,22 +220,22 @@ mul-t43 c = let args· = c .before .before .before .before .before .before .befo
     record { fits = omega arith }
 
 element-set-from-self-2 : tie.Need-element-set-from-self-2 Inv-loop μ-loop
-element-set-from-self-2 c = let args· = c .before .before .before .before .before .before .before .before .before .before .before .before .before .before .args in let good· = c .before .before .before .before .before .before .before .before .before .before .before .before .before .before .good in let pre· = c .before .before .before .before .before .before .before .before .before .before .before .before .before .before .pre in let lowest-free· = c .before .before .before .before .before .before .before .before .before .before .lowest-free in
+element-set-from-self-2 c = let args· = c .before .before .before .before .before .before .before .before .before .before .before .before .before .before .before .args in let good· = c .before .before .before .before .before .before .before .before .before .before .before .before .before .before .before .good in let pre· = c .before .before .before .before .before .before .before .before .before .before .before .before .before .before .before .pre in let lowest-free· = c .before .before .before .before .before .before .before .before .before .before .before .lowest-free in
     let x· = stateOf (args· .t1) (now (args· .committed)) (now (args· .working)) in
     let w· = shaped (args· .t1) _ (good· .0) in
     let small· : args· .mask < 2 ^ 16 = search needs in
     index x· w· (args· .mask) small· (args· .t5) (pre· .0) (pre· .1) (omega (arith, good· .0)) (lowest-free· .result) (lowest-free· .ensures)
 
-cast-t58 : tie.Need-cast-t58 Inv-loop μ-loop
-cast-t58 c = let args· = c .before .before .before .before .before .before .args in let good· = c .before .before .before .before .before .before .good in let pre· = c .before .before .before .before .before .before .pre in let lowest-free· = c .before .before .lowest-free in
+cast-t64 : tie.Need-cast-t64 Inv-loop μ-loop
+cast-t64 c = let args· = c .before .before .before .before .before .before .args in let good· = c .before .before .before .before .before .before .good in let pre· = c .before .before .before .before .before .before .pre in let lowest-free· = c .before .before .lowest-free in
     let x· = stateOf (args· .t1) (now (args· .committed)) (now (args· .working)) in
     let w· = shaped (args· .t1) _ (good· .0) in
     let small· : args· .mask < 2 ^ 16 = search needs in
     let i· = index x· w· (args· .mask) small· (args· .t5) (pre· .0) (pre· .1) (omega (arith, good· .0)) (lowest-free· .result) (lowest-free· .ensures) in
     record { fits = omega arith }
 
-add-t59 : tie.Need-add-t59 Inv-loop μ-loop
-add-t59 c = let args· = c .before .before .before .before .before .before .args in let good· = c .before .before .before .before .before .before .good in let pre· = c .before .before .before .before .before .before .pre in let lowest-free· = c .before .before .lowest-free in
+add-t65 : tie.Need-add-t65 Inv-loop μ-loop
+add-t65 c = let args· = c .before .before .before .before .before .before .args in let good· = c .before .before .before .before .before .before .good in let pre· = c .before .before .before .before .before .before .pre in let lowest-free· = c .before .before .lowest-free in
     let x· = stateOf (args· .t1) (now (args· .committed)) (now (args· .working)) in
     let w· = shaped (args· .t1) _ (good· .0) in
     let small· : args· .mask < 2 ^ 16 = search needs in
@@ -245,6 +252,20 @@ returns c = let args· = c .before .before .before .before .before .before .args
     let small· : args· .mask < 2 ^ 16 = search needs in
     at-last x· w· (args· .mask) small· (args· .t5) (pre· .0) (pre· .1) (omega (arith, good· .0)) (lowest-free· .result) (lowest-free· .ensures) (store (loop· .self)) (loop· .working) (loop· .c) (omega arith) (loop· .inv .0) (loop· .inv .1)
 
+add-self-5 : tie.Need-add-self-5 Inv-loop μ-loop
+add-self-5 c = let args· = c .before .before .before .before .before .before .before .before .before .before .before .before .before .before .before .args in let good· = c .before .before .before .before .before .before .before .before .before .before .before .before .before .before .before .good in let loop· = c .before .before .before .before .before .before .before .before .before .before .loop in let pre· = c .before .before .before .before .before .before .before .before .before .before .before .before .before .before .before .pre in let lowest-free· = c .before .before .before .before .before .before .before .before .before .before .before .lowest-free in
+    let x· = stateOf (args· .t1) (now (args· .committed)) (now (args· .working)) in
+    let w· = shaped (args· .t1) _ (good· .0) in
+    let small· : args· .mask < 2 ^ 16 = search needs in
+    let here· : named (args· .mask) (loop· .c) ≡ true = sym (c .before .before .before .before .before .before .before .before .names .ensures) ∙ c .before .before .before .before .before .before .before .if1 .taken in
+    record { fits = omega (arith, few-sum x· w· (args· .mask) small· (args· .t5) (pre· .0) (pre· .1) (omega (arith, good· .0)) (lowest-free· .result) (lowest-free· .ensures) (store (loop· .self)) (loop· .working) (loop· .c) (omega (arith, c .before .before .before .before .before .before .before .before .before .loop-test .taken)) (loop· .inv .1) here·) }
+
+mul-self-2 : tie.Need-mul-self-2 Inv-loop μ-loop
+mul-self-2 c = let l· : c .before .before .before .before .before .before .before .before .before .before .loop .c < 16 = omega arith in search needs
+
+element-write-self-3 : tie.Need-element-write-self-3 Inv-loop μ-loop
+element-write-self-3 c = let l· : c .before .before .before .before .before .before .before .before .before .before .loop .c < 16 = omega arith in search needs
+
 loop-again : tie.Need-loop-again Inv-loop μ-loop
 loop-again c = let args· = c .before .before .before .before .before .before .before .before .args in let good· = c .before .before .before .before .before .before .before .before .good in let loop· = c .before .before .before .loop in let loop-test· = c .before .before .loop-test in let lowest-free· = c .before .before .before .before .lowest-free in let names· = c .before .names in let pre· = c .before .before .before .before .before .before .before .before .pre in
     let x· = stateOf (args· .t1) (now (args· .committed)) (now (args· .working)) in
@@ -258,7 +279,7 @@ loop-again c = let args· = c .before .before .before .before .before .before .b
           (λ z.
           let here· : named (args· .mask) (loop· .c) ≡ true = sym (names· .ensures) ∙ z .0 .taken in
           let Put· : Site → List ℕ → Type 0 = λ s v. Put x· w· (args· .mask) small· (args· .t5) (pre· .0) (pre· .1) (omega (arith, good· .0)) (lowest-free· .result) (lowest-free· .ensures) (store (loop· .self)) (loop· .working) (loop· .c) l· (loop· .inv .1) here· (store s) v in
-          let put· : Put· (z .2 .self) (z .2 .working) =
+          let put· : Put· (z .3 .self) (z .3 .working) =
           ⊎-elim
           (λ y. carried Put· (y .10) (y .9) (put-head x· w· (args· .mask) small· (args· .t5) (pre· .0) (pre· .1) (omega (arith, good· .0)) (lowest-free· .result) (lowest-free· .ensures) (store (loop· .self)) (loop· .working) (loop· .c) l· (loop· .inv .1) here· (y .0 .taken) (y .1 .taken) _ _ (record {
             is = ap (withSlot (store (loop· .self)) (headSlot (store (loop· .self)) (loop· .c))) (y .8 .ensures);
@@ -269,10 +290,10 @@ loop-again c = let args· = c .before .before .before .before .before .before .b
           (⊎-elim
           (λ y. carried Put· (y .3) (y .2) (put-none x· w· (args· .mask) small· (args· .t5) (pre· .0) (pre· .1) (omega (arith, good· .0)) (lowest-free· .result) (lowest-free· .ensures) (store (loop· .self)) (loop· .working) (loop· .c) l· (loop· .inv .1) here· (inr (y .1 .left))))
           (λ y. carried Put· (y .2) (y .1) (put-none x· w· (args· .mask) small· (args· .t5) (pre· .0) (pre· .1) (omega (arith, good· .0)) (lowest-free· .result) (lowest-free· .ensures) (store (loop· .self)) (loop· .working) (loop· .c) l· (loop· .inv .1) here· (inl (y .0 .left)))))
-          (z .2 .came) in
-          carried Next· (z .8) (z .7) (turned x· w· (args· .mask) small· (args· .t5) (pre· .0) (pre· .1) (omega (arith, good· .0)) (lowest-free· .result) (lowest-free· .ensures) (store (loop· .self)) (loop· .working) (loop· .c) l· (loop· .inv .1) here· (store (z .2 .self)) (z .2 .working) put· _ (z .6 .result)
-          (record { queue = z .4 .ensures; lens = refl; queries = refl; slots = refl; map-same = (refl, refl); counts = (refl, refl, refl); kept = refl })
-          (z .6 .ensures .0) (z .6 .ensures .1) (z .6 .ok .1 .1 .0 .1)))
+          (z .3 .came) in
+          carried Next· (z .9) (z .8) (turned x· w· (args· .mask) small· (args· .t5) (pre· .0) (pre· .1) (omega (arith, good· .0)) (lowest-free· .result) (lowest-free· .ensures) (store (loop· .self)) (loop· .working) (loop· .c) l· (loop· .inv .1) here· (store (z .3 .self)) (z .3 .working) put· _ (z .7 .result)
+          (record { queue = z .5 .ensures; lens = refl; queries = refl; slots = refl; map-same = (refl, refl); counts = (refl, refl, refl); kept = refl; sums = ap (λ (r : List ℕ). set (z .3 .self .sums) (loop· .c) (getD r (loop· .c) 0 + 1)) (sym (put· .settled .sums)) })
+          (z .7 .ensures .0) (z .7 .ensures .1) (z .7 .ok .1 .1 .0 .1)))
           (λ z. carried Next· (z .2) (z .1) (skipped (counted (store (args· .t1))) _ _ _ _ _ _ _ _ (loop· .inv .1) (sym (names· .ensures) ∙ z .0 .left)))
           (c .if1 .came),
     )
@@ -291,6 +312,8 @@ begin-spec =
     mul-to
     array-read-to
     element-copy-out-len
+    mul-sum
+    element-copy-out-sum
     copy-class-requires
     mul-i
     element-copy-out-i
@@ -298,7 +321,7 @@ begin-spec =
     mul-v
     element-copy-out-v
     backed-requires
-    mul-t33
+    mul-t37
     element-set-from-self
     cast-self
     add-self-2
@@ -314,12 +337,15 @@ begin-spec =
     element-copy-out-q
     cast-with
     with-requires
-    mul-t43
+    mul-t47
     element-set-from-self-2
+    add-self-5
+    mul-self-2
+    element-write-self-3
     (λ c. search needs)
     (λ c. search needs)
     loop-again
-    cast-t58
-    add-t59
+    cast-t64
+    add-t65
     same-length
     returns)

@@ -1,4 +1,4 @@
--- `Site::read_entry` meets its contract: the entry leaves its queue and its query. Assumes nothing.
+-- `Site::read_entry` meets its contract: the entry leaves its queue and its query, and the sum is one less. Assumes nothing.
 use native.Mathlib.Omega.{arith}
 use mathlib.Core.Path.{refl}
 use denote.Ref.{now}
@@ -54,17 +54,29 @@ sub-self c = let h = c .before .before .before .before .before .before .before .
 element-write-self : tie.Need-element-write-self
 element-write-self c = let l = c .before .before .before .before .before .before .before .before .pre .0 .class in search needs
 
+mul-one-less : tie.Need-mul-one-less
+mul-one-less c = let l = c .before .before .before .before .before .before .before .before .pre .0 .class in search needs
+
+element-copy-out-one-less : tie.Need-element-copy-out-one-less
+element-copy-out-one-less c = let l = c .before .before .before .before .before .before .before .before .pre .0 .class in search needs
+
+mul-self : tie.Need-mul-self
+mul-self c = let l = c .before .before .before .before .before .before .before .before .before .before .pre .0 .class in search needs
+
+element-write-self-2 : tie.Need-element-write-self-2
+element-write-self-2 c = let l = c .before .before .before .before .before .before .before .before .before .before .pre .0 .class in search needs
+
 sub-t13 : tie.Need-sub-t13
-sub-t13 c = let h = c .before .before .before .before .before .before .before .before .pre .1 in search needs
+sub-t13 c = let h = c .before .before .before .before .before .before .before .before .before .before .pre .1 in search needs
 
-add-t27 : tie.Need-add-t27
-add-t27 c = let args· = c .before .before .before .before .before .before .before .before .args in let pre· = c .before .before .before .before .before .before .before .before .pre in let h = entry-small (store (args· .t1)) (shaped (args· .t1) _ (c .before .before .before .before .before .before .before .before .good .0)) (pre· .0 .sound .laid) (args· .c) (pre· .0 .class) (pre· .0 .some) in record { fits = omega arith }
+add-t34 : tie.Need-add-t34
+add-t34 c = let args· = c .before .before .before .before .before .before .before .before .before .before .args in let pre· = c .before .before .before .before .before .before .before .before .before .before .pre in let h = entry-small (store (args· .t1)) (shaped (args· .t1) _ (c .before .before .before .before .before .before .before .before .before .before .good .0)) (pre· .0 .sound .laid) (args· .c) (pre· .0 .class) (pre· .0 .some) in record { fits = omega arith }
 
-cast-t28 : tie.Need-cast-t28
-cast-t28 c = let l = c .before .before .before .before .before .before .before .before .pre .0 .class in record { fits = omega arith }
+cast-t35 : tie.Need-cast-t35
+cast-t35 c = let l = c .before .before .before .before .before .before .before .before .before .before .pre .0 .class in record { fits = omega arith }
 
 returns : tie.Need-returns
-returns c = let args· = c .before .before .before .before .before .before .before .before .args in let pre· = c .before .before .before .before .before .before .before .before .pre in let without· = c .before .before .before .without in let take-head· = c .take-head in let x· = stateOf (args· .t1) (now (args· .committed)) (now (args· .working)) in let w· = shaped (args· .t1) _ (c .before .before .before .before .before .before .before .before .good .0) in read-as x· w· (pre· .0 .right) (pre· .0 .sound) (args· .c) (pre· .0 .class) (pre· .0 .some) (pre· .1) _ (without· .result) (without· .ensures .0) (without· .ensures .1) refl refl (take-head· .ensures .own) (take-head· .ensures .others) refl (refl, refl) (refl, refl, refl) refl _ (omega (arith, pre· .1))
+returns c = let args· = c .before .before .before .before .before .before .before .before .before .before .args in let pre· = c .before .before .before .before .before .before .before .before .before .before .pre in let without· = c .before .before .before .before .before .without in let take-head· = c .before .before .take-head in let one-less· = c .one-less in let x· = stateOf (args· .t1) (now (args· .committed)) (now (args· .working)) in let w· = shaped (args· .t1) _ (c .before .before .before .before .before .before .before .before .before .before .good .0) in read-as x· w· (pre· .0 .right) (pre· .0 .sound) (args· .c) (pre· .0 .class) (pre· .0 .some) (pre· .1) _ (without· .result) (without· .ensures .0) (without· .ensures .1) refl refl (take-head· .ensures .own) (take-head· .ensures .others) refl (refl, refl) (refl, refl, refl) refl (one-less· .result) (one-less· .ensures) refl _ (omega (arith, pre· .1))
 
 pub read-entry-spec : {M : Type 1} → statement M
 read-entry-spec =
@@ -85,7 +97,12 @@ read-entry-spec =
     take-head-requires
     sub-self
     element-write-self
+    mul-one-less
+    element-copy-out-one-less
+    (λ c κs. search needs)
+    mul-self
+    element-write-self-2
     sub-t13
-    add-t27
-    cast-t28
+    add-t34
+    cast-t35
     returns)

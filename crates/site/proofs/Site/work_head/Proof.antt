@@ -45,17 +45,29 @@ mul-u c = record { fits = omega (arith, c .before .before .before .before .befor
 element-set-from-u : tie.Need-element-set-from-u
 element-set-from-u c = c .before .before .before .before .before .before .before .before .before .before .pre .1
 
+mul-one-less : tie.Need-mul-one-less
+mul-one-less c = let l = c .before .before .before .before .before .before .before .before .before .before .pre .0 .class in search needs
+
+element-copy-out-one-less : tie.Need-element-copy-out-one-less
+element-copy-out-one-less c = let l = c .before .before .before .before .before .before .before .before .before .before .pre .0 .class in search needs
+
+mul-self : tie.Need-mul-self
+mul-self c = let l = c .before .before .before .before .before .before .before .before .before .before .before .before .pre .0 .class in search needs
+
+element-write-self : tie.Need-element-write-self
+element-write-self c = let l = c .before .before .before .before .before .before .before .before .before .before .before .before .pre .0 .class in search needs
+
 returns : tie.Need-returns
-returns c = let args· = c .before .before .before .before .before .before .before .before .before .before .before .before .args in let pre· = c .before .before .before .before .before .before .before .before .before .before .before .before .pre in let step· = c .before .before .before .before .step in let x· = stateOf (args· .t1) (now (args· .committed)) (now (args· .working)) in let w· = shaped (args· .t1) _ (c .before .before .before .before .before .before .before .before .before .before .before .before .good .0) in stepped-as x· w· (pre· .0 .right) (pre· .0 .sound) (args· .c) (pre· .0 .class) (pre· .0 .some) (pre· .1) (work-left x· w· (pre· .0 .right) (pre· .0 .sound) (args· .c) (pre· .0 .class) (pre· .0 .some) (pre· .1) (pre· .0 .unfinished (pre· .1))) (step· .result) _ (step· .kept .1 .1 .0) (step· .ensures) (omega (arith, c .if1 .taken))
+returns c = let args· = c .before .before .before .before .before .before .before .before .before .before .before .before .before .before .args in let pre· = c .before .before .before .before .before .before .before .before .before .before .before .before .before .before .pre in let step· = c .before .before .before .before .before .before .step in let one-less· = c .before .before .one-less in let x· = stateOf (args· .t1) (now (args· .committed)) (now (args· .working)) in let w· = shaped (args· .t1) _ (c .before .before .before .before .before .before .before .before .before .before .before .before .before .before .good .0) in stepped-as x· w· (pre· .0 .right) (pre· .0 .sound) (args· .c) (pre· .0 .class) (pre· .0 .some) (pre· .1) (work-left x· w· (pre· .0 .right) (pre· .0 .sound) (args· .c) (pre· .0 .class) (pre· .0 .some) (pre· .1) (pre· .0 .unfinished (pre· .1))) (step· .result) _ (step· .kept .1 .1 .0) (step· .ensures) (one-less· .result) (one-less· .ensures) (omega (arith, c .if1 .taken))
 
 returns-2 : tie.Need-returns-2
-returns-2 c = let args· = c .before .before .before .before .before .before .before .before .before .before .before .before .before .before .args in let pre· = c .before .before .before .before .before .before .before .before .before .before .before .before .before .before .pre in let step· = c .before .before .before .before .before .before .step in let x· = stateOf (args· .t1) (now (args· .committed)) (now (args· .working)) in let w· = shaped (args· .t1) _ (c .before .before .before .before .before .before .before .before .before .before .before .before .before .before .good .0) in executed-as x· w· (pre· .0 .right) (pre· .0 .sound) (args· .c) (pre· .0 .class) (pre· .0 .some) (pre· .1) (work-left x· w· (pre· .0 .right) (pre· .0 .sound) (args· .c) (pre· .0 .class) (pre· .0 .some) (pre· .1) (pre· .0 .unfinished (pre· .1))) (step· .result) _ (step· .kept .1 .1 .0) (step· .ensures) (omega (arith, c .before .before .if1 .left)) (omega (arith, c .if2 .taken))
+returns-2 c = let args· = c .before .before .before .before .before .before .before .before .before .before .before .before .before .before .before .before .args in let pre· = c .before .before .before .before .before .before .before .before .before .before .before .before .before .before .before .before .pre in let step· = c .before .before .before .before .before .before .before .before .step in let one-less· = c .before .before .before .before .one-less in let x· = stateOf (args· .t1) (now (args· .committed)) (now (args· .working)) in let w· = shaped (args· .t1) _ (c .before .before .before .before .before .before .before .before .before .before .before .before .before .before .before .before .good .0) in executed-as x· w· (pre· .0 .right) (pre· .0 .sound) (args· .c) (pre· .0 .class) (pre· .0 .some) (pre· .1) (work-left x· w· (pre· .0 .right) (pre· .0 .sound) (args· .c) (pre· .0 .class) (pre· .0 .some) (pre· .1) (pre· .0 .unfinished (pre· .1))) (step· .result) _ (step· .kept .1 .1 .0) (step· .ensures) (one-less· .result) (one-less· .ensures) (omega (arith, c .before .before .if1 .left)) (omega (arith, c .if2 .taken))
 
 commit-requires : tie.Need-commit-requires
-commit-requires c κs = let args· = c .before .before .before .before .before .before .before .before .before .before .before .before .before .before .before .before .args in let good· = c .before .before .before .before .before .before .before .before .before .before .before .before .before .before .before .before .good in let pre· = c .before .before .before .before .before .before .before .before .before .before .before .before .before .before .before .before .pre in let step· = c .before .before .before .before .before .before .before .before .step in let x· = stateOf (args· .t1) (now (args· .committed)) (now (args· .working)) in let w· = shaped (args· .t1) _ (good· .0) in may-commit x· w· (pre· .0 .right) (pre· .0 .sound) (args· .c) (pre· .0 .class) (pre· .0 .some) (pre· .1) (work-left x· w· (pre· .0 .right) (pre· .0 .sound) (args· .c) (pre· .0 .class) (pre· .0 .some) (pre· .1) (pre· .0 .unfinished (pre· .1))) (step· .result) _ (step· .kept .1 .1 .0) (step· .ensures) (omega (arith, c .before .before .if2 .left)) (omega (arith, good· .0))
+commit-requires c κs = let args· = c .before .before .before .before .before .before .before .before .before .before .before .before .before .before .before .before .before .before .args in let good· = c .before .before .before .before .before .before .before .before .before .before .before .before .before .before .before .before .before .before .good in let pre· = c .before .before .before .before .before .before .before .before .before .before .before .before .before .before .before .before .before .before .pre in let step· = c .before .before .before .before .before .before .before .before .before .before .step in let one-less· = c .before .before .before .before .before .before .one-less in let x· = stateOf (args· .t1) (now (args· .committed)) (now (args· .working)) in let w· = shaped (args· .t1) _ (good· .0) in may-commit x· w· (pre· .0 .right) (pre· .0 .sound) (args· .c) (pre· .0 .class) (pre· .0 .some) (pre· .1) (work-left x· w· (pre· .0 .right) (pre· .0 .sound) (args· .c) (pre· .0 .class) (pre· .0 .some) (pre· .1) (pre· .0 .unfinished (pre· .1))) (step· .result) _ (step· .kept .1 .1 .0) (step· .ensures) (one-less· .result) (one-less· .ensures) (omega (arith, c .before .before .if2 .left)) (omega (arith, good· .0))
 
 returns-3 : tie.Need-returns-3
-returns-3 c = let args· = c .before .before .before .before .before .before .before .before .before .before .before .before .before .before .before .before .before .before .before .args in let pre· = c .before .before .before .before .before .before .before .before .before .before .before .before .before .before .before .before .before .before .before .pre in let step· = c .before .before .before .before .before .before .before .before .before .before .before .step in let x· = stateOf (args· .t1) (now (args· .committed)) (now (args· .working)) in let w· = shaped (args· .t1) _ (c .before .before .before .before .before .before .before .before .before .before .before .before .before .before .before .before .before .before .before .good .0) in committed-as x· w· (pre· .0 .right) (pre· .0 .sound) (args· .c) (pre· .0 .class) (pre· .0 .some) (pre· .1) (work-left x· w· (pre· .0 .right) (pre· .0 .sound) (args· .c) (pre· .0 .class) (pre· .0 .some) (pre· .1) (pre· .0 .unfinished (pre· .1))) (step· .result) _ (step· .kept .1 .1 .0) (step· .ensures) (omega (arith, c .before .before .before .before .before .before .before .if1 .left)) (omega (arith, c .before .before .before .before .before .if2 .left)) _ _ (c .before .before .commit .ensures)
+returns-3 c = let args· = c .before .before .before .before .before .before .before .before .before .before .before .before .before .before .before .before .before .before .before .before .before .args in let pre· = c .before .before .before .before .before .before .before .before .before .before .before .before .before .before .before .before .before .before .before .before .before .pre in let step· = c .before .before .before .before .before .before .before .before .before .before .before .before .before .step in let one-less· = c .before .before .before .before .before .before .before .before .before .one-less in let x· = stateOf (args· .t1) (now (args· .committed)) (now (args· .working)) in let w· = shaped (args· .t1) _ (c .before .before .before .before .before .before .before .before .before .before .before .before .before .before .before .before .before .before .before .before .before .good .0) in committed-as x· w· (pre· .0 .right) (pre· .0 .sound) (args· .c) (pre· .0 .class) (pre· .0 .some) (pre· .1) (work-left x· w· (pre· .0 .right) (pre· .0 .sound) (args· .c) (pre· .0 .class) (pre· .0 .some) (pre· .1) (pre· .0 .unfinished (pre· .1))) (step· .result) _ (step· .kept .1 .1 .0) (step· .ensures) (one-less· .result) (one-less· .ensures) (omega (arith, c .before .before .before .before .before .before .before .if1 .left)) (omega (arith, c .before .before .before .before .before .if2 .left)) _ _ (c .before .before .commit .ensures)
 
 pub work-head-spec : {M : Type 1} → statement M
 work-head-spec =
@@ -79,6 +91,11 @@ work-head-spec =
     step-requires
     mul-u
     element-set-from-u
+    mul-one-less
+    element-copy-out-one-less
+    (λ c κs. search needs)
+    mul-self
+    element-write-self
     (λ c. search needs)
     (λ c. search needs)
     returns
