@@ -1,5 +1,5 @@
 -- What the mission demands of the steps, and what document 01 says besides, as statements about sites and histories. Assumes nothing.
-use Prim.Native.Nat.{ℕ, suc, _-_, _<_, _≤_}
+use Prim.Native.Nat.{ℕ, suc, _+_, _-_, _<_, _≤_}
 use mathlib.Core.Path.{_≡_}
 use mathlib.Core.Logic.{_⊎_}
 use mathlib.Core.Bool.{true, false}
@@ -14,7 +14,7 @@ use Rattle.plain.specs.Site.{Site, Call, Outcome, offer, work, confirm, 
 use Rattle.plain.specs.Site.{classOf, isFree, isQueued, isKept, isOpen, named}
 use Rattle.plain.specs.Sizes.{classCount, slotCount, keptCount, queryCount}
 use Rattle.plain.specs.Sound.{All, OfRequest, SoundSite}
-use Rattle.plain.specs.History.{after, afterFrom, worksFrom, confirmations, putBacks, confirmedIn, committedIn}
+use Rattle.plain.specs.History.{after, afterFrom, worksFrom, confirmations, putBacks, overtakers, queriesMet, confirmedIn, committedIn}
 
 -- DEMAND 2, of class c after a history from fresh: its committed cells are those got by running its committed requests one after another, and
 -- these are the first confirmed ones of the class in definitive order
@@ -90,6 +90,14 @@ pub record CountedBack (h : List Call) : Type 0 where
   pub of-queued : (c : ℕ) → c < classCount → All (OfRequest (λ e. e .backs ≡ putBacks (idOf e) h)) (after h .class c .queue)
   pub of-looked : (i backs : ℕ) → Shows (call (after h) (look i) .answer) backs → backs ≡ putBacks i h
   pub of-committed : (k : Call) (i n declined slot backs : ℕ) → call (after h) k .answer ≡ committed i n declined slot backs → backs ≡ putBacks i h
+
+-- HOW UNLUCKY. After a history from fresh a request was put back at most as often as there are requests of its class offered after it and confirmed
+-- before it, plus queries that named its class and began while it waited: so the count of each queued request, and the one that look and a commit answer
+pub record Unlucky (h : List Call) : Type 0 where
+  pub of-queued : (c : ℕ) → c < classCount → All (OfRequest (λ e. e .backs ≤ overtakers (idOf e) h + queriesMet (idOf e) h)) (after h .class c .queue)
+  pub of-looked : (i backs : ℕ) → Shows (call (after h) (look i) .answer) backs → backs ≤ overtakers i h + queriesMet i h
+  pub of-committed : (k : Call) (i n declined slot backs : ℕ) → call (after h) k .answer ≡ committed i n declined slot backs
+      → backs ≤ overtakers i h + queriesMet i h
 
 -- a call is for class d: it is its class, or it names it
 abbrev pub For : Site → Call → ℕ → Type 0

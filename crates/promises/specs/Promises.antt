@@ -11,7 +11,7 @@ use Rattle.plain.specs.Record.{requestIn}
 use Rattle.plain.specs.Queue.{count, has}
 use Rattle.plain.specs.Steps.{Answer, committed, toDo}
 use Rattle.plain.specs.Site.{Call, offer, work, confirm, read, look, query, call, standing, isFree, isQueued}
-use Rattle.plain.specs.History.{after, offers, confirmations, commits, committedIn, putBacks}
+use Rattle.plain.specs.History.{after, offers, confirmations, commits, committedIn, putBacks, overtakers, queriesMet}
 use Rattle.plain.specs.Demands.{Shares, Shows, For, wOf}
 use Rattle.slots.specs.Meaning.{isUsed, slotAt}
 use Rattle.store.specs.Store.{Store, runSize}
@@ -58,6 +58,14 @@ pub record Promises : Type 0 where
   pub put-backs-shown : {h : List Call} {y z : State} {a : Answer} {i b : ℕ} → FromFresh h y → Happens y (look i) z a → Shows a b → b ≡ putBacks i h
   pub put-backs-committed : {h : List Call} {y z : State} {k : Call} {i n m j b : ℕ} → FromFresh h y → Happens y k z (committed i n m j b)
       → b ≡ putBacks i h
+  -- HOW UNLUCKY. That count is at most the requests of its class that were offered after it and confirmed before it, plus the queries that named its
+  -- class and began while it waited: in a used slot, as look shows it, and as a commit tells it
+  pub unlucky : {h : List Call} {y : State} → FromFresh h y → (j : ℕ) → j < slotCount → isUsed (slotAt (y .site .slots) j) ≡ true
+      → slotAt (y .site .slots) j .backs ≤ overtakers (slotAt (y .site .slots) j .id) h + queriesMet (slotAt (y .site .slots) j .id) h
+  pub unlucky-shown : {h : List Call} {y z : State} {a : Answer} {i b : ℕ} → FromFresh h y → Happens y (look i) z a → Shows a b
+      → b ≤ overtakers i h + queriesMet i h
+  pub unlucky-committed : {h : List Call} {y z : State} {k : Call} {i n m j b : ℕ} → FromFresh h y → Happens y k z (committed i n m j b)
+      → b ≤ overtakers i h + queriesMet i h
   -- THE QUERY'S PROMISE, of every accepted query after a run from fresh; and a request confirmed before it keeps its W
   pub queried : {h : List Call} {x y : State} {m : ℕ} {a : Answer} → FromFresh h x → Happens x (query m) y a → Accepted a → Queried h m y a
   pub keeps-w : {x y z z′ : State} {m i v b : ℕ} {a : Answer} → Ready x → Happens x (look i) z (toDo v b) → Happens x (query m) y a
