@@ -4,8 +4,8 @@ use crate::raw::{self, NUMBERS, Numbers};
 use std::error::Error;
 use std::fmt;
 
-/// An answer not given yet.
-pub const NO_ANSWER: Numbers = [0; NUMBERS];
+/// An answer not given yet: no call writes such numbers, so that one left out is noticed.
+pub const NO_ANSWER: Numbers = [u64::MAX; NUMBERS];
 
 /// What a call answers when it acts.
 #[derive(Clone, Copy, Debug, PartialEq, Eq)]
@@ -101,30 +101,31 @@ impl Error for Refusal {}
 
 /// The answer or the refusal that six numbers say; panics at numbers that no answer has.
 pub fn answered(numbers: &Numbers) -> Result<Answer, Refusal> {
-    let [what, first, second, third, fourth, fifth] = *numbers;
-    Ok(match what {
-        raw::QUEUED => Answer::Queued {
-            id: word(first),
-            class: word(second),
-            place: word(third),
-            slot: word(fourth),
+    Ok(match *numbers {
+        [raw::QUEUED, id, class, place, slot, 0] => Answer::Queued {
+            id: word(id),
+            class: word(class),
+            place: word(place),
+            slot: word(slot),
         },
-        raw::STEPPED => Answer::Stepped { id: word(first), done: word(second) },
-        raw::EXECUTED => Answer::Executed { id: word(first) },
-        raw::COMMITTED => Answer::Committed {
-            id: word(first),
-            number: word(second),
-            mark: word(third),
-            slot: word(fourth),
-            backs: fifth,
+        [raw::STEPPED, id, done, 0, 0, 0] => Answer::Stepped { id: word(id), done: word(done) },
+        [raw::EXECUTED, id, 0, 0, 0, 0] => Answer::Executed { id: word(id) },
+        [raw::COMMITTED, id, number, mark, slot, backs] => Answer::Committed {
+            id: word(id),
+            number: word(number),
+            mark: word(mark),
+            slot: word(slot),
+            backs,
         },
-        raw::WAITING => Answer::Waiting { id: word(first), w: word(second), put_back: word(third) },
-        raw::VALUE => Answer::Value(word(first)),
-        raw::TO_DO => Answer::ToDo { w: word(first), backs: second },
-        raw::UNCONFIRMED => Answer::Unconfirmed { backs: first },
-        raw::STARTED => Answer::Started,
-        raw::REFUSED => return Err(refusal(first)),
-        _ => panic!("an answer of the unknown kind {what}"),
+        [raw::WAITING, id, w, put_back, 0, 0] => {
+            Answer::Waiting { id: word(id), w: word(w), put_back: word(put_back) }
+        }
+        [raw::VALUE, cell, 0, 0, 0, 0] => Answer::Value(word(cell)),
+        [raw::TO_DO, w, backs, 0, 0, 0] => Answer::ToDo { w: word(w), backs },
+        [raw::UNCONFIRMED, backs, 0, 0, 0, 0] => Answer::Unconfirmed { backs },
+        [raw::STARTED, 0, 0, 0, 0, 0] => Answer::Started,
+        [raw::REFUSED, number, 0, 0, 0, 0] => return Err(refusal(number)),
+        _ => panic!("{numbers:?} is no answer of a site"),
     })
 }
 

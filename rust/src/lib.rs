@@ -29,6 +29,6 @@ pub mod raw;
 mod site;
 mod text;
 
-pub use answer::{Answer, Refusal};
+pub use answer::{Answer, Refusal, answered};
 pub use raw::{LONGEST_TEXT, Op, RECORD_BYTES, RUN_LENGTH, Site, Slot};
 pub use text::{TextRefusal, read_text, write_text};

@@ -114,13 +114,13 @@ pub fn read_text(text: &[u8], booking: &mut [u8]) -> Result<usize, TextRefusal> 
 
 /// The length or the refusal that six numbers say; panics at numbers that no answer has.
 fn written(numbers: &Numbers) -> Result<usize, TextRefusal> {
-    let [what, first, second, ..] = numbers.map(|number| {
+    let narrow = |number: u64| {
         u32::try_from(number).unwrap_or_else(|_| panic!("{number} is in no answer about a text"))
-    });
-    match u64::from(what) {
-        raw::WRITTEN => Ok(first as usize),
-        raw::REFUSED => Err(refusal(first, second)),
-        _ => panic!("an answer of the unknown kind {what}"),
+    };
+    match *numbers {
+        [raw::WRITTEN, length, 0, 0, 0, 0] => Ok(narrow(length) as usize),
+        [raw::REFUSED, number, line, 0, 0, 0] => Err(refusal(narrow(number), narrow(line))),
+        _ => panic!("{numbers:?} is no answer about a text"),
     }
 }
 

@@ -1,6 +1,7 @@
 //! The refusals by the wrapper, under their numbers and in words; a refusal changes nothing.
 
-use shpendorak::{Answer, RUN_LENGTH, Refusal, Site};
+use shpendorak::raw::{NUMBERS, shpendorak_fresh};
+use shpendorak::{Answer, RUN_LENGTH, Refusal, Site, answered};
 
 /// A site with its cells.
 struct Hosted {
@@ -123,6 +124,19 @@ fn wrong_cells_and_unsound_sites_are_refused_and_left() {
     hosted.site = before;
     assert_eq!(hosted.work(3), Ok(Answer::Executed { id: 7 }));
     assert_eq!(Site::fresh(&mut hosted.committed[1..], &mut []), Err(Refusal::WrongCells));
+}
+
+#[test]
+fn a_refused_start_hands_back_an_empty_site() {
+    let Hosted { site: empty, mut committed, mut working } = Hosted::fresh();
+    working.push(1);
+    let mut answer = [u64::MAX; NUMBERS];
+    let (c, w) = (committed.as_mut_ptr(), working.as_mut_ptr());
+    // SAFETY: both runs are lent with their lengths, the answer has six numbers.
+    let site = unsafe { shpendorak_fresh(c, committed.len(), w, working.len(), &mut answer) };
+    assert_eq!(site, empty);
+    assert_eq!(answered(&answer), Err(Refusal::WrongCells));
+    assert_eq!(working.last(), Some(&1));
 }
 
 #[test]

@@ -31,3 +31,4 @@ STANDS(shpendorak_site, confirmations, 12320, 4);
 STANDS(shpendorak_site, commits, 12324, 4);
 STANDS(shpendorak_site, kept, 12328, 1024);
 _Static_assert(sizeof(shpendorak_site) == 13352, "a site");
+_Static_assert(SHPENDORAK_PLACES == SHPENDORAK_CLASSES * SHPENDORAK_SLOTS, "a queue has room for every slot");

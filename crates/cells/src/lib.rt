@@ -1,6 +1,6 @@
 // Operations, and the cells of a class.
 ghost use mathlib.Core.Path.{_≡_};
-ghost use mathlib.Core.Bool.{cond};
+ghost use mathlib.Core.Bool.{cond, false};
 ghost use mathlib.Core.Option.{none, some};
 ghost use Prim.Native.Nat.{_*_, _<_};
 ghost use lib.ListN.{length, replicate};
@@ -75,6 +75,7 @@ pub fn op_zero(op: Op) -> bool
 pub fn carry(cells: &mut [u32], op: Op) -> bool
     requires { ⌜ (length (now cells) ≡ cellCount) × OpOk op ⌝ }
     ensures { λ r. ⌜ P.carry (opOf op) (now (cells .entry)) ≡ cond r (some (now (cells .exit))) none ⌝ }
+    ensures { λ r. ⌜ (r ≡ false → now (cells .exit) ≡ now (cells .entry)) ⌝ }
 {
     let code = op.code;
     let k = op.cell as usize;
@@ -98,6 +99,7 @@ pub fn carry(cells: &mut [u32], op: Op) -> bool
 fn give(cells: &mut [u32], k: usize, j: usize, amount: u32) -> bool
     requires { ⌜ (k < length (now cells)) × (j < length (now cells)) ⌝ }
     ensures { λ r. ⌜ P.carry (P.move k j amount) (now (cells .entry)) ≡ cond r (some (now (cells .exit))) none ⌝ }
+    ensures { λ r. ⌜ (r ≡ false → now (cells .exit) ≡ now (cells .entry)) ⌝ }
 {
     if cells[k] < amount {
         return false;

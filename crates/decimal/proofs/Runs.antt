@@ -7,13 +7,13 @@ use mathlib.Core.Path.{_≡_, refl, sym, ap, _∙_, subst}
 use mathlib.Core.Bool.{true, false}
 use mathlib.Core.List.{List, [], _∷_, _++_, append-assoc}
 use lib.Dec.{ltb}
-use lib.ListN.{length, getD, drop, length-append}
+use lib.ListN.{length, getD, drop, length-append, length-drop}
 use lib.Seq.{drop-cons}
 use borrow.Author.Tests.{ltb-true, ltb-false, lt-ltb}
 use Rattle.io.specs.Digits.{glyph}
 use Rattle.plain.specs.Sound.{All}
 use Rattle.plain.proofs.Tests.{by-test, no}
-use Rattle.decimal.specs.Decimal.{count, decimal, NumberAt}
+use Rattle.decimal.specs.Decimal.{count, decimal, NumberAt, EndsAt}
 use Rattle.decimal.proofs.Digits.{small, larger, count-fewest, is-decimal}
 
 -- DIGIT BY DIGIT
@@ -216,3 +216,14 @@ module _ (stop most : ℕ) (not-digit : Digit stop → ⊥) where
 -- the byte at a place of a text stands before the rest
 pub at-place : (text : List ℕ) (i : ℕ) → i < length text → drop i text ≡ getD text i 0 ∷ drop (i + 1) text
 at-place text i h = rw add-one (drop-cons text i 0 h)
+
+-- WHERE READING ENDS
+pub stayed : (at : ℕ) → EndsAt at false 0 at
+stayed at = record { past = λ t. no _ t refl; stays = λ f. (refl, refl) }
+
+pub went-past : (text : List ℕ) (at i value : ℕ) → at ≤ length text → i < length text → drop at text ≡ decimal value ++ drop i text
+    → EndsAt at true value (i + 1)
+went-past text at i value l k e = record {
+  past = λ t. omega (arith, ap length e, length-drop at text, length-drop i text, length-append (decimal value) (drop i text));
+  stays = λ f. no _ refl f;
+}

@@ -3,7 +3,7 @@ ghost use Prim.Native.Nat.{_+_, _^_, _≤_, _<_};
 ghost use mathlib.Core.Path.{_≡_};
 ghost use mathlib.Core.List.{_++_};
 ghost use lib.ListN.{length, take, drop};
-ghost use Rattle.decimal.specs.Decimal.{decimal, NumberAt};
+ghost use Rattle.decimal.specs.Decimal.{decimal, NumberAt, EndsAt};
 
 const ZERO: u8 = 48;
 
@@ -29,6 +29,7 @@ pub fn put_number(to: &mut [u8], at: usize, n: u64) -> usize
     requires { ⌜ at + length (decimal n) ≤ length (now to) ⌝ }
     ensures { λ r. ⌜ r ≡ at + length (decimal n) ⌝ }
     ensures { λ r. ⌜ take r (now (to .exit)) ≡ take at (now (to .entry)) ++ decimal n ⌝ }
+    ensures { λ r. ⌜ drop r (now (to .exit)) ≡ drop r (now (to .entry)) ⌝ }
 {
     let mut digits = [0u8; 20];
     let k = io::decimal(n, &mut digits);
@@ -47,6 +48,7 @@ pub fn number_at(text: &[u8], at: usize, stop: u8, most: u64) -> Number
     requires { ⌜ (at ≤ length (now text)) × (stop < 48) × (9 ≤ most) × (most < 2 ^ 32) ⌝ }
     ensures { λ r. ⌜ NumberAt (drop at (now (text .entry))) stop most (r .ok) (r .value) (drop (r .next) (now (text .entry))) ⌝ }
     ensures { λ r. ⌜ r .next ≤ length (now (text .entry)) ⌝ }
+    ensures { λ r. ⌜ EndsAt at (r .ok) (r .value) (r .next) ⌝ }
 {
     let none = Number {
         ok: false,
@@ -72,6 +74,7 @@ fn number_from(text: &[u8], at: usize, from: usize, start: u64, stop: u8, most: 
     requires { ⌜ (from ≤ length (now text)) × (drop at (now text) ≡ decimal start ++ drop from (now text)) ⌝ }
     ensures { λ r. ⌜ NumberAt (drop at (now (text .entry))) stop most (r .ok) (r .value) (drop (r .next) (now (text .entry))) ⌝ }
     ensures { λ r. ⌜ r .next ≤ length (now (text .entry)) ⌝ }
+    ensures { λ r. ⌜ EndsAt at (r .ok) (r .value) (r .next) ⌝ }
 {
     let none = Number {
         ok: false,

@@ -10,7 +10,8 @@ use borrow.Author.Tests.{eq-eqb, ne-eqb}
 use Rattle.plain.specs.Record.{byte, number}
 use Rattle.plain.specs.Steps.{Answer, refused}
 use Rattle.plain.specs.Site.{Call, offer, confirm}
-use Rattle.store.specs.Calls.{State, Called}
+use Rattle.store.specs.Calls.{State}
+use Rattle.promised.specs.Promised.{Promised}
 use Rattle.event.specs.Event.{eventSize, badEvent, callOfKind, callOf, Happened}
 
 -- THE CALL OF THE BYTES
@@ -37,9 +38,9 @@ module _ (b : List ℕ) where
   confirms id n l e i j = rw (i, j) (by-kind 2 l e)
 
 -- WHAT THE EVENT DID: the call, or nothing
-pub made : (x : State) (b : List ℕ) (y : State) (a : Answer) (k : Call) → callOf b ≡ some k → Called x k y a → Happened x b y a
+pub made : (x : State) (b : List ℕ) (y : State) (a : Answer) (k : Call) → callOf b ≡ some k → Promised x k y a → Happened x b y a
 made x b y a k e h = record {
-  is-call = λ j q. subst (λ (i : Call). Called x i y a) (Option·some-injective k j (sym e ∙ q)) h;
+  is-call = λ j q. subst (λ (i : Call). Promised x i y a) (Option·some-injective k j (sym e ∙ q)) h;
   bad = λ q. absurd (Option·none-ne-some k (sym q ∙ e));
 }
 

@@ -1,3 +1,4 @@
--- The laws of events, and events written out.
+-- The laws of events, that each has one outcome, and events written out.
 pub mod Events
+pub mod Unique
 pub mod Written

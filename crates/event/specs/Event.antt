@@ -9,7 +9,8 @@ use lib.ListN.{length, drop}
 use Rattle.plain.specs.Record.{byte, number}
 use Rattle.plain.specs.Steps.{Answer, refused}
 use Rattle.plain.specs.Site.{Call, offer, confirm, work, read}
-use Rattle.store.specs.Calls.{State, Called}
+use Rattle.store.specs.Calls.{State}
+use Rattle.promised.specs.Promised.{Promised}
 use Rattle.line.specs.Text.{lineOf}
 
 -- an event has 72 bytes: kind, class, cell, an unused byte, a 4-byte number, a 64-byte record
@@ -32,9 +33,9 @@ callOfKind kind b =
 unfoldable pub callOf : List ℕ → Option Call
 callOf b = cond (eqb (length b) eventSize) (callOfKind (byte b 0) b) none
 
--- AN EVENT: its call is made, or it is refused with 13 and nothing is touched
+-- AN EVENT: its call is made, with all that is promised of it, or it is refused with 13 and nothing is touched
 pub record Happened (x : State) (bytes : List ℕ) (y : State) (a : Answer) : Type 0 where
-  pub is-call : (k : Call) → callOf bytes ≡ some k → Called x k y a
+  pub is-call : (k : Call) → callOf bytes ≡ some k → Promised x k y a
   pub bad : callOf bytes ≡ none → (y ≡ x) × (a ≡ refused badEvent)
 
 -- ITS LINE: the event's place in the input, and what was answered

@@ -48,17 +48,17 @@ pub fn happen(site: Site, committed: &mut [u32], working: &mut [u32], bytes: &[u
     }
     let kind = bytes[KIND_AT];
     match kind {
-        OFFER => site.offer(&*committed, &*working, &bytes[RECORD_AT..]),
+        OFFER => promised::offer(site, &*committed, &*working, &bytes[RECORD_AT..]),
         CONFIRM => {
             let id = word_at(bytes, RECORD_AT);
             let number = word_at(bytes, NUMBER_AT);
-            site.confirm(committed, working, id as u64, number as u64)
+            promised::confirm(site, committed, working, id as u64, number as u64)
         }
-        WORK => site.work(committed, working, bytes[CLASS_AT] as u64),
+        WORK => promised::work(site, committed, working, bytes[CLASS_AT] as u64),
         READ => {
             let class = bytes[CLASS_AT] as u64;
             let cell = bytes[CELL_AT] as u64;
-            let answer = site.read(&*committed, &*working, class, cell);
+            let answer = promised::read(site, &*committed, &*working, class, cell);
             Reply {
                 site: site,
                 answer: answer,

@@ -1,2 +1,2 @@
--- a host loses nothing, and any two outcomes of its call are equal
+-- a host loses nothing, and any two outcomes of a call, a fresh start or a text are equal
 pub mod Told

@@ -6,7 +6,8 @@ use Rattle.plain.specs.Steps.{Answer, refused, queued, stepped, executed, commi
 use Rattle.plain.specs.Site.{Call}
 use Rattle.text.specs.Calls as T
 use Rattle.store.specs.Store.{Store}
-use Rattle.store.specs.Calls.{State, Called, Started}
+use Rattle.store.specs.Calls.{State}
+use Rattle.promised.specs.Promised.{Promised, Begun}
 
 -- what an answer is, then its numbers in document 01's order, then zeros
 abbrev pub told : Answer → List ℕ
@@ -14,7 +15,7 @@ told (refused reason) = 0 ∷ reason ∷ 0 ∷ 0 ∷ 0 ∷ 0 ∷ []
 told (queued id class place slot) = 1 ∷ id ∷ class ∷ place ∷ slot ∷ 0 ∷ []
 told (stepped id done) = 2 ∷ id ∷ done ∷ 0 ∷ 0 ∷ 0 ∷ []
 told (executed id) = 3 ∷ id ∷ 0 ∷ 0 ∷ 0 ∷ 0 ∷ []
-told (committed id number declined slot backs) = 4 ∷ id ∷ number ∷ declined ∷ slot ∷ backs ∷ []
+told (committed id number mark slot backs) = 4 ∷ id ∷ number ∷ mark ∷ slot ∷ backs ∷ []
 told (waiting id w putBack) = 5 ∷ id ∷ w ∷ putBack ∷ 0 ∷ 0 ∷ []
 told (value cell) = 6 ∷ cell ∷ 0 ∷ 0 ∷ 0 ∷ 0 ∷ []
 told (toDo w backs) = 7 ∷ w ∷ backs ∷ 0 ∷ 0 ∷ 0 ∷ []
@@ -25,10 +26,10 @@ abbrev pub toldFresh : ℕ → List ℕ
 toldFresh zero = 9 ∷ 0 ∷ 0 ∷ 0 ∷ 0 ∷ 0 ∷ []
 toldFresh (suc n) = told (refused (suc n))
 
--- A HOST'S CALL: the call beneath was made, and the numbers are those of its answer
+-- A HOST'S CALL: the call beneath was made, with all that is promised of it, and the numbers are those of its answer
 pub record Told (x : State) (k : Call) (y : State) (numbers : List ℕ) : Type 0 where
   pub answer : Answer
-  pub called : Called x k y answer
+  pub promised : Promised x k y answer
   pub says : numbers ≡ told answer
 
 -- of the text form: 10 and the length of what was written; or the refusal, that of a bad text with its first bad line
@@ -43,8 +44,8 @@ pub record ToldText (Done : T.Answer → Type 0) (numbers : List ℕ) : Type 0 w
   pub done : Done answer
   pub says : numbers ≡ toldText answer
 
--- A HOST'S FRESH START: the start beneath was made, and the numbers say whether it was refused
+-- A HOST'S FRESH START: the start beneath was made, with all that is promised of it, and the numbers say whether it was refused
 pub record ToldFresh (base wrk : List ℕ) (site : Store) (base' wrk' numbers : List ℕ) : Type 0 where
   pub reason : ℕ
-  pub started : Started base wrk site reason base' wrk'
+  pub begun : Begun base wrk site reason base' wrk'
   pub says : numbers ≡ toldFresh reason

@@ -41,45 +41,63 @@ const BAD_TEXT: u64 = 15;
 
 const SHORT_BUFFER: u64 = 16;
 
-// An answer as its six numbers.
-fn numbers_of(answer: Answer) -> [u64; NUMBERS]
-    ensures { λ r. ⌜ r ≡ told (answerOf answer) ⌝ }
+// Writes the six numbers of an answer.
+fn tell(answer: Answer, out: &mut [u64; NUMBERS])
+    ensures { λ _. ⌜ now (out .exit) ≡ told (answerOf answer) ⌝ }
 {
     match answer {
-        Answer::Refused(n) => [REFUSED, n as u64, 0, 0, 0, 0],
+        Answer::Refused(n) => {
+            *out = [REFUSED, n as u64, 0, 0, 0, 0];
+        }
         Answer::Queued {
             id,
             class,
             place,
             slot,
-        } => [
-            QUEUED,
-            id as u64,
-            class as u64,
-            place as u64,
-            slot as u64,
-            0,
-        ],
-        Answer::Stepped { id, done } => [STEPPED, id as u64, done as u64, 0, 0, 0],
-        Answer::Executed { id } => [EXECUTED, id as u64, 0, 0, 0, 0],
+        } => {
+            *out = [
+                QUEUED,
+                id as u64,
+                class as u64,
+                place as u64,
+                slot as u64,
+                0,
+            ];
+        }
+        Answer::Stepped { id, done } => {
+            *out = [STEPPED, id as u64, done as u64, 0, 0, 0];
+        }
+        Answer::Executed { id } => {
+            *out = [EXECUTED, id as u64, 0, 0, 0, 0];
+        }
         Answer::Committed {
             id,
             number,
             mark,
             slot,
             backs,
-        } => [
-            COMMITTED,
-            id as u64,
-            number as u64,
-            mark as u64,
-            slot as u64,
-            backs,
-        ],
-        Answer::Waiting { id, w, back } => [WAITING, id as u64, w as u64, back as u64, 0, 0],
-        Answer::Value(n) => [VALUE, n as u64, 0, 0, 0, 0],
-        Answer::ToDo { w, backs } => [TO_DO, w as u64, backs, 0, 0, 0],
-        Answer::Unconfirmed { backs } => [UNCONFIRMED, backs, 0, 0, 0, 0],
+        } => {
+            *out = [
+                COMMITTED,
+                id as u64,
+                number as u64,
+                mark as u64,
+                slot as u64,
+                backs,
+            ];
+        }
+        Answer::Waiting { id, w, back } => {
+            *out = [WAITING, id as u64, w as u64, back as u64, 0, 0];
+        }
+        Answer::Value(n) => {
+            *out = [VALUE, n as u64, 0, 0, 0, 0];
+        }
+        Answer::ToDo { w, backs } => {
+            *out = [TO_DO, w as u64, backs, 0, 0, 0];
+        }
+        Answer::Unconfirmed { backs } => {
+            *out = [UNCONFIRMED, backs, 0, 0, 0, 0];
+        }
     }
 }
 
@@ -114,13 +132,13 @@ pub extern "C" fn shpendorak_fresh(
 ) -> Site
     ensures { λ r. ⌜ ToldFresh (now (committed .entry)) (now (working .entry)) (store r) (now (committed .exit)) (now (working .exit)) (now (answer .exit)) ⌝ }
 {
-    let started = Site::fresh(committed, working);
+    let started = promised::fresh(committed, working);
     let site = started.site;
     *answer = numbers_of_fresh(started.refused);
     site
 }
 
-// Queues the request of a record; or refuses with 1, 2, 3, 4 or 5.
+// Queues the request of a record; or refuses with 1, 2, 3, 4, 14 or 5.
 #[no_mangle]
 pub extern "C" fn shpendorak_offer(
     site: Site,
@@ -131,10 +149,10 @@ pub extern "C" fn shpendorak_offer(
 ) -> Site
     ensures { λ r. ⌜ Told (stateOf site (now (committed .entry)) (now (working .entry))) (offer (now (booking .entry))) (stateOf r (now (committed .entry)) (now (working .entry))) (now (answer .exit)) ⌝ }
 {
-    let reply = site.offer(committed, working, booking);
-    let next = reply.site;
+    let reply = promised::offer(site, committed, working, booking);
     let given = reply.answer;
-    *answer = numbers_of(given);
+    tell(given, answer);
+    let next = reply.site;
     next
 }
 
@@ -150,10 +168,10 @@ pub extern "C" fn shpendorak_confirm(
 ) -> Site
     ensures { λ r. ⌜ Told (stateOf site (now (committed .entry)) (now (working .entry))) (confirm id number) (stateOf r (now (committed .exit)) (now (working .exit))) (now (answer .exit)) ⌝ }
 {
-    let reply = site.confirm(committed, working, id, number);
-    let next = reply.site;
+    let reply = promised::confirm(site, committed, working, id, number);
     let given = reply.answer;
-    *answer = numbers_of(given);
+    tell(given, answer);
+    let next = reply.site;
     next
 }
 
@@ -168,10 +186,10 @@ pub extern "C" fn shpendorak_work(
 ) -> Site
     ensures { λ r. ⌜ Told (stateOf site (now (committed .entry)) (now (working .entry))) (work class) (stateOf r (now (committed .exit)) (now (working .exit))) (now (answer .exit)) ⌝ }
 {
-    let reply = site.work(committed, working, class);
-    let next = reply.site;
+    let reply = promised::work(site, committed, working, class);
     let given = reply.answer;
-    *answer = numbers_of(given);
+    tell(given, answer);
+    let next = reply.site;
     next
 }
 
@@ -187,8 +205,19 @@ pub extern "C" fn shpendorak_read(
 ) -> Site
     ensures { λ r. ⌜ Told (stateOf site (now (committed .entry)) (now (working .entry))) (read class cell) (stateOf r (now (committed .entry)) (now (working .entry))) (now (answer .exit)) ⌝ }
 {
-    let given = site.read(committed, working, class, cell);
-    *answer = numbers_of(given);
+    let given = promised::read(site, committed, working, class, cell);
+    // What read answers is told here: so the answer takes no stack.
+    match given {
+        Answer::Refused(n) => {
+            *answer = [REFUSED, n as u64, 0, 0, 0, 0];
+        }
+        Answer::Value(n) => {
+            *answer = [VALUE, n as u64, 0, 0, 0, 0];
+        }
+        _ => {
+            tell(given, answer);
+        }
+    }
     site
 }
 
@@ -203,8 +232,8 @@ pub extern "C" fn shpendorak_look(
 ) -> Site
     ensures { λ r. ⌜ Told (stateOf site (now (committed .entry)) (now (working .entry))) (look id) (stateOf r (now (committed .entry)) (now (working .entry))) (now (answer .exit)) ⌝ }
 {
-    let given = site.look(committed, working, id);
-    *answer = numbers_of(given);
+    let given = promised::look(site, committed, working, id);
+    tell(given, answer);
     site
 }
 

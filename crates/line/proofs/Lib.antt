@@ -1,2 +1,3 @@
 -- a few lines by computing
 pub mod Examples
+pub mod Words

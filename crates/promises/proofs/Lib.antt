@@ -1,4 +1,5 @@
 -- The promises kept, each file resting on those above it.
+pub mod Made
 pub mod Answers
 pub mod Stands
 pub mod Demand1
@@ -9,6 +10,5 @@ pub mod Unique
 pub mod Kept
 pub mod KeptOut
 pub mod PutBacks
-pub mod Queried
 pub mod Local
 pub mod Promises

@@ -8,7 +8,6 @@ use Rattle.promises.proofs.Unique as U
 use Rattle.promises.proofs.Kept as K
 use Rattle.promises.proofs.KeptOut as O
 use Rattle.promises.proofs.PutBacks as B
-use Rattle.promises.proofs.Queried as Q
 use Rattle.promises.proofs.Local as L
 
 pub promises : Promises
@@ -26,11 +25,6 @@ promises = record {
   put-backs = B.put-backs;
   put-backs-shown = B.put-backs-shown;
   put-backs-committed = B.put-backs-committed;
-  unlucky = B.unlucky;
-  unlucky-shown = B.unlucky-shown;
-  unlucky-committed = B.unlucky-committed;
-  queried = Q.queried;
-  keeps-w = Q.keeps-w;
   fresh-ready = K.fresh-ready;
   stays-sound = K.stays-sound;
   stays-right = K.stays-right;

@@ -49,7 +49,7 @@ same-frees {j = j} p e f = record {
   number = f .number;
   confirmed = f .confirmed;
   both = f .both;
-  declined = f .declined;
+  mark = f .mark;
   says = p ∙ f .says;
   free = same-free e j ∙ f .free;
 }

@@ -3,29 +3,24 @@ use Prim.Native.Nat.{ℕ, _+_}
 use mathlib.Core.Path.{_≡_}
 use mathlib.Core.Bool.{Bool, true, false, cond, _&&_}
 use mathlib.Core.List.{List, [], _∷_}
-use Rattle.plain.specs.Steps.{Answer, refused, queued, stepped, executed, committed, waiting, value, toDo, unconfirmed, begun, entry}
-use Rattle.plain.specs.Ops.{Request}
-use Rattle.plain.specs.Queue.{Item, booking, reading}
+use Rattle.plain.specs.Steps.{Answer, refused, queued, stepped, executed, committed, waiting, value, toDo, unconfirmed}
 use Rattle.plain.specs.Site.{Call}
 use Rattle.plain.specs.History.{isWork}
 use Rattle.store.specs.Store.{Shaped}
 use Rattle.store.specs.Calls.{State, RightCells, SoundState, Called, Started}
 
--- a call was made: x is the site with its two runs of cells as handed in, y as handed back, a the answer. This is known: the contract, and what
--- the declared types say of both sites
+-- a call was made: x is the site with its two runs of cells as handed in, y as handed back, a the answer. This is known
 pub record Happens (x : State) (k : Call) (y : State) (a : Answer) : Type 0 where
+  -- what the declared types say of the site as it was handed in
   pub before : Shaped (x .site)
+  -- the contract
   pub called : Called x k y a
+  -- and what they say of it as it was handed back
   pub after : Shaped (y .site)
 
 -- a sound site with two runs of 1,024 cells
 abbrev pub Ready : State → Type 0
 Ready x = RightCells x × SoundState x
-
--- what stands in a queue is a request that passes a test
-abbrev pub asks : (Request → Bool) → Item → Bool
-asks f (booking e) = f (e .request)
-asks f (reading p b) = false
 
 -- is the answer no refusal?
 abbrev pub isAccepted : Answer → Bool
@@ -38,8 +33,6 @@ isAccepted (waiting i w b) = true
 isAccepted (value x) = true
 isAccepted (toDo w b) = true
 isAccepted (unconfirmed b) = true
-isAccepted (begun p) = true
-isAccepted (entry p l) = true
 
 abbrev pub Accepted : Answer → Type 0
 Accepted a = isAccepted a ≡ true
@@ -66,8 +59,10 @@ worksIn c (wrong base wrk k z a r n e) = worksIn c r
 
 -- a run from a state that fresh handed back with 0: only then the site counts as a fresh one
 pub record FromFresh (h : List Call) (y : State) : Type 0 where
+  -- the runs of cells that fresh was given
   pub base : List ℕ
   pub wrk : List ℕ
+  -- what it handed back
   pub begin : State
   pub started : Started base wrk (begin .site) 0 (begin .committed) (begin .working)
   pub run : Run begin h y

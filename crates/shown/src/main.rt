@@ -1,9 +1,13 @@
-// Reads records from standard input, one after another, and writes the text of each to standard output.
+// Reads records from standard input, one after another, and writes the text of each to standard output. That reading hands over the input and
+// that what is written comes out is left to the system.
 ghost use Prim.Native.Nat.{_+_, _≤_};
 ghost use mathlib.Core.Path.{_≡_};
-ghost use lib.ListN.{length};
+ghost use lib.ListN.{length, take};
+ghost use Rattle.text.specs.Calls.{answerOf};
+ghost use Rattle.shown.specs.Showing.{recordsOf, ShowsOne, Shows};
+use input::fill;
+use input::whole;
 use libc::STDERR_FILENO;
-use libc::STDIN_FILENO;
 use libc::STDOUT_FILENO;
 use refusal::report;
 use slots::decode::RECORD;
@@ -12,8 +16,6 @@ use text::Outcome;
 use text::write;
 
 // Records are read in blocks of 384: their texts fit 65,536 bytes.
-const RECORDS: u64 = 384;
-
 const BLOCK: usize = 24576;
 
 // What showing a record came to, and how many bytes the text has then.
@@ -25,6 +27,7 @@ struct Shown {
 // The text of a record, put into a text of len bytes.
 fn show_record(bytes: &[u8], text: &mut [u8], len: usize) -> Shown
     requires { ⌜ len + 168 ≤ length (now text) ⌝ }
+    ensures { λ r. ⌜ ShowsOne (now (bytes .entry)) (take len (now (text .entry))) (take (r .len) (now (text .exit))) (answerOf (r .outcome)) ⌝ }
     ensures { λ r. ⌜ r .len ≤ len + 168 ⌝ }
 {
     let outcome = write(bytes, &mut text[len..]);
@@ -40,22 +43,23 @@ fn show_record(bytes: &[u8], text: &mut [u8], len: usize) -> Shown
     }
 }
 
-// What showing a block came to: the last outcome, the bytes of the text, and how many records were shown.
+// What showing a block came to: the last outcome, the bytes of the text, and the place of the record behind those shown.
 struct Block {
     outcome: Outcome,
     len: usize,
-    done: u64,
+    place: u64,
 }
 
-// The texts of a block's records, up to the first that is refused. The last record may be short.
-fn show_block(input: &[u8], text: &mut [u8]) -> Block
+// The texts of a block's records, from a place on, up to the first that is refused. The last record may be short.
+fn show_block(input: &[u8], first: u64, text: &mut [u8]) -> Block
     requires { ⌜ length (now input) ≤ 24576 ⌝ }
     requires { ⌜ length (now text) ≡ 65536 ⌝ }
+    ensures { λ r. ⌜ Shows (recordsOf (now (input .entry))) first (take (r .len) (now (text .exit))) (r .place) (answerOf (r .outcome)) ⌝ }
     ensures { λ r. ⌜ r .len ≤ 65536 ⌝ }
 {
     let n = input.len();
     let mut len = 0;
-    let mut done: u64 = 0;
+    let mut place = first;
     let mut at = 0;
     while at + RECORD <= n {
         let end = at + RECORD;
@@ -66,45 +70,53 @@ fn show_block(input: &[u8], text: &mut [u8]) -> Block
             return Block {
                 outcome: outcome,
                 len: len,
-                done: done,
+                place: place,
             };
         };
-        done = wrapping_add_u64(done, 1);
+        place = wrapping_add_u64(place, 1);
         at = end;
     }
-    let mut outcome = Outcome::Length(len);
     if at < n {
-        outcome = Outcome::NoRecord;
+        return Block {
+            outcome: Outcome::NoRecord,
+            len: len,
+            place: place,
+        };
     }
     Block {
-        outcome: outcome,
+        outcome: Outcome::Length(len),
         len: len,
-        done: done,
+        place: place,
     }
 }
 
-// Block after block, until the input ends, a record is refused, or the text cannot be written.
+// Block after block, until the input ends or cannot be read, a record is refused, or the text cannot be written.
 fn run() {
     let mut input = [0u8; BLOCK];
     let mut text = io::large_buffer();
-    let mut first: u64 = 1;
+    let mut place: u64 = 1;
     let mut turns = u64::MAX;
     while turns > 0 {
-        let n = io::read_full(STDIN_FILENO, &mut input);
-        let block = show_block(&input[..n], &mut text);
+        let got = fill(&mut input);
+        let n = whole(got, RECORD);
+        let block = show_block(&input[..n], place, &mut text);
         if !io::write_all(STDOUT_FILENO, &text[..block.len]) {
             io::write_all(STDERR_FILENO, b"shown: the text cannot be written\n");
             return;
         }
+        place = block.place;
         let outcome = block.outcome;
         let Outcome::Length(_) = outcome else {
-            report(wrapping_add_u64(first, block.done), outcome);
+            report(place, outcome);
             return;
         };
+        if got.failed {
+            io::write_all(STDERR_FILENO, b"shown: the input cannot be read\n");
+            return;
+        }
         if n < BLOCK {
             return;
         }
-        first = wrapping_add_u64(first, RECORDS);
         turns -= 1;
     }
 }

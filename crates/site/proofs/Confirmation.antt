@@ -1,11 +1,9 @@
 -- What is known of a request that may be confirmed: where it stands, that it may commit, and that it may move. Assumes nothing.
-use Prim.Native.Nat.{ℕ, _+_, _*_, _<_, _≤_}
+use Prim.Native.Nat.{ℕ, _+_, _<_, _≤_}
 use native.Mathlib.Omega.{arith}
 use mathlib.Core.Path.{_≡_, refl, ap, subst, sym}
 use mathlib.Core.Logic.{_⊎_, inl, inr}
 use mathlib.Core.List.{List}
-use lib.ListN.{getD}
-use Rattle.plain.specs.Sizes.{mostOps, mostW}
 use Rattle.plain.specs.Steps as K
 use Rattle.plain.specs.Site as S
 use Rattle.slots.specs.Meaning.{slotAt}
@@ -13,10 +11,9 @@ use Rattle.store.specs.Store.{Store, Shaped}
 use Rattle.store.specs.Meaning.{lenOf}
 use Rattle.store.specs.Calls.{State, Did}
 use Rattle.store.specs.Steps.{headSlot, numberedStore, PlaceOf, FirstWaiting, Backable, Commitable, CommitDone, PutBack, Forward}
-use Rattle.store.proofs.Confirming.{class-here, held, stands-once, queue-some, may-be-put-back, may-commit, committed-now}
+use Rattle.store.proofs.Commit.{head-small}
+use Rattle.store.proofs.Confirming.{class-here, stands-once, queue-some, may-be-put-back, may-commit, committed-now}
 use Rattle.store.proofs.Confirmed.{Movable, forward, Goes, itself, behind-confirmed, head-put-back}
-use Rattle.store.proofs.Counting.{countable}
-use Rattle.store.proofs.Ending.{sum-bounded}
 use Rattle.store.proofs.Work.{work-left}
 use Rattle.site.specs.Held.{InQueue, Confirmable, HeadDone}
 
@@ -33,18 +30,6 @@ module _ (x : State) (w : Shaped (x .site)) (i : ℕ) (f : Confirmable x i) wher
   pub small-class : c < 16
   small-class = class-here x w (f .right) (f .sound) id n (f .more) refl i (f .small) refl (f .used) .1
 
-  -- the sum of its class is small, and so is the count of its operations; no more of them are done
-  pub small-sum : (getD (x .site .sums) c 0 ≤ mostW) × (slotAt (x .site .slots) i .count ≤ mostOps)
-  small-sum = (
-    sum-bounded x w (f .right) (f .sound) c small-class,
-    held x w (f .right) (f .sound) id n (f .more) refl i (f .small) refl (f .used) (f .waits) .count,
-  )
-
-  pub done-within : (from : ℕ) → PlaceOf (x .site) c i from → slotAt (x .site .slots) i .done ≤ slotAt (x .site .slots) i .count
-  done-within from p =
-      subst (λ (j : ℕ). j < 128 → slotAt (x .site .slots) j .done ≤ slotAt (x .site .slots) j .count) (p .is)
-      (countable x w (f .right) (f .sound) c small-class .within from (p .within)) (f .small)
-
   pub some-queued : 0 < lenOf (x .site) c
   some-queued = queue-some x w (f .right) (f .sound) id n (f .more) refl i (f .small) refl (f .used) (f .waits)
 
@@ -55,15 +40,11 @@ module _ (x : State) (w : Shaped (x .site)) (i : ℕ) (f : Confirmable x i) wher
     stands = omega (arith, stands-once x w (f .right) (f .sound) id n (f .more) refl i (f .small) refl (f .used) (f .waits));
   }
 
-  -- where all wait, the head is a request that waits
-  pub head-waits : (to : ℕ) → FirstWaiting (x .site) c to → to ≡ 0
-      → (headSlot (x .site) c < 128) × (slotAt (x .site .slots) (headSlot (x .site) c) .number ≡ 0)
-  head-waits to q z =
-      let a : 136 * c + to ≡ 136 * c = omega arith in
-      rw a at (q .waits (omega (arith, some-queued)))
+  pub first-small : headSlot (x .site) c < 128
+  first-small = head-small (x .site) w (f .sound .laid) c small-class some-queued
 
-  pub may-back : x .site .begun ≤ 4294967295 → headSlot (x .site) c < 128 → Backable (x .site) (x .committed) (x .working) c
-  may-back b m = may-be-put-back x w (f .right) (f .sound) id n (omega (arith, f .more)) (omega arith) c small-class some-queued m
+  pub may-back : Backable (x .site) (x .committed) (x .working) c
+  may-back = may-be-put-back x w (f .right) (f .sound) id n (f .more) c small-class some-queued
 
   pub movable : (from to : ℕ) → PlaceOf (x .site) c i from → FirstWaiting (x .site) c to → Movable x id n i from to
   movable from to p q = record {
@@ -100,18 +81,17 @@ module _ (x : State) (w : Shaped (x .site)) (i : ℕ) (f : Confirmable x i) wher
     pub not-back : to ≤ from
     not-back = forward x w (f .right) (f .sound) id n i from to (movable from to p q)
 
-    pub put-back-gone : (hd ≡ i → ⊥) → to ≡ 0 → (a : Store) (wrk′ : List ℕ) → PutBack (x .site) (x .committed) (x .working) c a wrk′
+    pub put-back-gone : (hd ≡ i → ⊥) → slotAt (x .site .slots) hd .number ≡ 0 → (a : Store) (wrk′ : List ℕ) → PutBack (x .site) (x .committed) (x .working) c a wrk′
         → (t : Store) → Forward a c i (a .confirmations + 1) from to t → Gone t wrk′ (slotAt (x .site .slots) hd .id)
     put-back-gone ne z a wrk′ b t d =
-        head-put-back x w (f .right) (f .sound) id n i from to (movable from to p q) ne (head-waits to q z .0) (head-waits to q z .1) a wrk′ b t
+        head-put-back x w (f .right) (f .sound) id n i from to (movable from to p q) ne z a wrk′ b t
         (subst (λ (m : ℕ). Forward a c i (m + 1) from to t) (ap (λ (z : Store). z .confirmations) (b .is)) d)
 
-    pub stayed-gone : (HeadDone (x .site) i → ⊥) → (hd ≡ i) ⊎ ((hd ≡ i → ⊥) × (to ≡ 0 → ⊥))
+    pub stayed-gone : (HeadDone (x .site) i → ⊥) → (hd ≡ i) ⊎ ((hd ≡ i → ⊥) × (slotAt (x .site .slots) hd .number ≡ 0 → ⊥))
         → (t : Store) → Forward (x .site) c i n from to t → Gone t (x .working) 0
     stayed-gone not-done (inl e) t d =
         itself x w (f .right) (f .sound) id n i from to (movable from to p q) t d e
         (subst (λ (j : ℕ). slotAt (x .site .slots) j .done < slotAt (x .site .slots) j .count) e
-        (work-left x w (f .right) (f .sound) c small-class some-queued (rw e (f .small)) (λ z. not-done (e, subst (λ (j : ℕ). slotAt (x .site .slots) j .done ≡ slotAt (x .site .slots) j .count) e z))))
+        (work-left x w (f .right) (f .sound) c small-class some-queued (λ z. not-done (e, subst (λ (j : ℕ). slotAt (x .site .slots) j .done ≡ slotAt (x .site .slots) j .count) e z))))
     stayed-gone not-done (inr k) t d =
-        behind-confirmed x w (f .right) (f .sound) id n i from to (movable from to p q) t d (k .0)
-        (let z : 136 * c + 0 ≡ 136 * c = omega arith in rw z at (q .before 0 (omega (arith, k .1))))
+        behind-confirmed x w (f .right) (f .sound) id n i from to (movable from to p q) t d (k .0) (omega (arith, k .1))

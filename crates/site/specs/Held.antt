@@ -7,11 +7,10 @@ use lib.ListN.{set}
 use Rattle.plain.specs.Steps as K
 use Rattle.plain.specs.Site.{Call}
 use Rattle.usedmap.specs.Flags.{usedOf}
-use Rattle.queries.specs.Table.{lowestFree}
 use Rattle.slots.specs.declared.Slot.{Slot}
 use Rattle.slots.specs.Meaning.{slotAt}
 use Rattle.store.specs.Store.{Store}
-use Rattle.store.specs.Meaning.{places, lenOf, cellsOf}
+use Rattle.store.specs.Meaning.{places, lenOf}
 use Rattle.store.specs.Sound.{times, Laid}
 use Rattle.store.specs.Steps.{placed, headSlot}
 use Rattle.store.specs.Calls.{State, RightCells, SoundState, Called}
@@ -30,28 +29,23 @@ store s = record {
   confirmations = s .confirmations;
   commits = s .commits;
   kept = s .kept;
-  queries = s .queries;
-  begun = s .begun;
-  sums = s .sums;
 }
 
 -- a site with its two runs of cells
 abbrev pub stateOf : Site → List ℕ → List ℕ → State
 stateOf s base wrk = record { site = store s; committed = base; working = wrk }
 
--- document 01's answer, with its number or values, for each case; an entry's cells are those of its class in the committed run that was handed back
-abbrev pub answerOf : Answer → List ℕ → K.Answer
-answerOf (a.Refused n) run = K.refused n
-answerOf (a.Queued id class place slot) run = K.queued id class place slot
-answerOf (a.Stepped id done) run = K.stepped id done
-answerOf (a.Executed id) run = K.executed id
-answerOf (a.Committed id number mark slot backs) run = K.committed id number mark slot backs
-answerOf (a.Waiting id w back) run = K.waiting id w back
-answerOf (a.Value n) run = K.value n
-answerOf (a.ToDo w backs) run = K.toDo w backs
-answerOf (a.Unconfirmed backs) run = K.unconfirmed backs
-answerOf (a.Begun place) run = K.begun place
-answerOf (a.Entry place class) run = K.entry place (cellsOf run class)
+-- document 01's answer, with its number or values, for each case
+abbrev pub answerOf : Answer → K.Answer
+answerOf (a.Refused n) = K.refused n
+answerOf (a.Queued id class place slot) = K.queued id class place slot
+answerOf (a.Stepped id done) = K.stepped id done
+answerOf (a.Executed id) = K.executed id
+answerOf (a.Committed id number mark slot backs) = K.committed id number mark slot backs
+answerOf (a.Waiting id w back) = K.waiting id w back
+answerOf (a.Value n) = K.value n
+answerOf (a.ToDo w backs) = K.toDo w backs
+answerOf (a.Unconfirmed backs) = K.unconfirmed backs
 
 -- what every call begins with: 0 where the cells are right and the site sound; any other number is what every call is refused with
 pub record Door (x : State) (no : ℕ) : Type 0 where
@@ -74,21 +68,13 @@ pub record Placed (s : Site) (i : ℕ) (v : Slot) (r : Site) : Type 0 where
   pub is : store r ≡ placed (store s) (v .class) i v (r .low) (r .high)
   pub used : usedOf (r .low) (r .high) ≡ set (usedOf (s .low) (s .high)) i true
 
--- class c has a head that is an entry, or not executed
+-- class c has a head that is not executed
 pub record MayWork (x : State) (c : ℕ) : Type 0 where
   pub right : RightCells x
   pub sound : SoundState x
   pub class : c < 16
   pub some : 0 < lenOf (x .site) c
-  pub unfinished : headSlot (x .site) c < 128 → slotAt (x .site .slots) (headSlot (x .site) c) .done ≡ slotAt (x .site .slots) (headSlot (x .site) c) .count → ⊥
-
--- a query over a mask of classes may begin: the mask names one, a place is free, and one more can be counted
-pub record MayQuery (x : State) (mask : ℕ) : Type 0 where
-  pub right : RightCells x
-  pub sound : SoundState x
-  pub some : mask ≡ 0 → ⊥
-  pub free : lowestFree (x .site .queries) < 8
-  pub more : x .site .begun < 4294967295
+  pub unfinished : slotAt (x .site .slots) (headSlot (x .site) c) .done ≡ slotAt (x .site .slots) (headSlot (x .site) c) .count → ⊥
 
 -- slot i stands in class c's queue
 pub record InQueue (s : Store) (c i : ℕ) : Type 0 where

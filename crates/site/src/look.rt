@@ -5,17 +5,12 @@ ghost use Rattle.plain.specs.Queue.{owed};
 ghost use Rattle.plain.specs.Site.{read, look};
 ghost use Rattle.slots.specs.Meaning.{slotAt};
 ghost use Rattle.store.specs.Meaning.{queueOf};
-ghost use Rattle.plain.specs.Decides.{Decides};
-ghost use Rattle.store.specs.Sound.{Laid};
-ghost use Rattle.store.specs.Checks.{nth};
-ghost use Rattle.store.specs.Steps.{Countable, EndsPart};
+ghost use Rattle.store.specs.Steps.{Countable};
 ghost use Rattle.store.specs.Calls.{Called};
 ghost use Rattle.site.specs.Held.{store, stateOf, answerOf, SlotOf};
 use crate::Answer;
 use crate::CELLS;
-use crate::CLASS_PLACES;
 use crate::CLASSES;
-use crate::SLOT_LIMIT;
 use crate::SLOTS;
 use crate::Site;
 
@@ -40,8 +35,8 @@ impl Site {
         at
     }
 
-    // The operations still to do by slot s and by all before it in the queue of class c; an entry of a query counts 1.
-    fn to_do(self, c: usize, s: usize) -> u32
+    // The operations still to do by slot s and by all before it in the queue of class c.
+    pub(crate) fn to_do(self, c: usize, s: usize) -> u32
         requires { ⌜ Countable (store self) c × (s < 128) × (0 < slotAt (self .slots) s .id) ⌝ }
         ensures { λ r. ⌜ r ≡ owed (slotAt (self .slots) s .id) (queueOf (store self) c) ⌝ }
     {
@@ -49,15 +44,11 @@ impl Site {
         let mut w: u32 = 0;
         let mut p = 0;
         while p < len {
-            let b = self.queue[CLASS_PLACES * c + p];
-            let i = b as usize;
-            if b < SLOT_LIMIT {
-                let v = self.slots[i];
-                let left = v.count - v.done;
-                w = w + (left as u32);
-            } else {
-                w = w + 1;
-            }
+            let x = self.queue[SLOTS * c + p];
+            let i = x as usize;
+            let v = self.slots[i];
+            let left = v.count - v.done;
+            w = w + (left as u32);
             if i == s {
                 return w;
             }
@@ -66,34 +57,9 @@ impl Site {
         w
     }
 
-    // Whether what stands behind a place of class c's queue is nothing, or waits.
-    fn ends_part(self, c: usize, p: usize) -> bool
-        requires { ⌜ Laid (store self) × (c < 16) × (p < 136) ⌝ }
-        ensures { λ r. ⌜ Decides r (EndsPart (store self) c p) ⌝ }
-    {
-        let next = p + 1;
-        if self.lens[c] as usize <= next {
-            return true;
-        }
-        let b = self.queue[CLASS_PLACES * c + next];
-        if SLOT_LIMIT <= b {
-            return false;
-        }
-        let v = self.slots[b as usize];
-        v.number == 0
-    }
-
-    // The sum that stands with class c.
-    fn sum(self, c: usize) -> u32
-        requires { ⌜ c < 16 ⌝ }
-        ensures { λ r. ⌜ r ≡ nth (self .sums) c ⌝ }
-    {
-        self.sums[c] as u32
-    }
-
     // The committed cell of a class; or refuses with 1, 2, 10 or 12.
     pub fn read(self, committed: &[u32], working: &[u32], class: u64, cell: u64) -> Answer
-        ensures { λ r. ⌜ Called (stateOf self (now (committed .entry)) (now (working .entry))) (read class cell) (stateOf self (now (committed .entry)) (now (working .entry))) (answerOf r (now (committed .entry))) ⌝ }
+        ensures { λ r. ⌜ Called (stateOf self (now (committed .entry)) (now (working .entry))) (read class cell) (stateOf self (now (committed .entry)) (now (working .entry))) (answerOf r) ⌝ }
     {
         let no = self.door(committed, working);
         if no != 0 {
@@ -109,9 +75,9 @@ impl Site {
         Answer::Value(committed[at])
     }
 
-    // W for a confirmed request, the class's sum where it ends the confirmed part; or that it is unconfirmed, and how often it was put back; or refuses with 1, 2 or 8.
+    // W for a confirmed request, or that it is unconfirmed, and how often it was put back; or refuses with 1, 2 or 8.
     pub fn look(self, committed: &[u32], working: &[u32], id: u64) -> Answer
-        ensures { λ r. ⌜ Called (stateOf self (now (committed .entry)) (now (working .entry))) (look id) (stateOf self (now (committed .entry)) (now (working .entry))) (answerOf r (now (committed .entry))) ⌝ }
+        ensures { λ r. ⌜ Called (stateOf self (now (committed .entry)) (now (working .entry))) (look id) (stateOf self (now (committed .entry)) (now (working .entry))) (answerOf r) ⌝ }
     {
         let no = self.door(committed, working);
         if no != 0 {
@@ -126,15 +92,9 @@ impl Site {
             return Answer::Unconfirmed { backs: v.backs };
         }
         let c = v.class as usize;
-        let p = self.place_of(c, i);
-        if self.ends_part(c, p) {
-            return Answer::ToDo {
-                w: self.sum(c),
-                backs: v.backs,
-            };
-        }
+        let w = self.to_do(c, i);
         Answer::ToDo {
-            w: self.to_do(c, i),
+            w: w,
             backs: v.backs,
         }
     }

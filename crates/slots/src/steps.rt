@@ -15,6 +15,7 @@ use cells::same_cells;
 fn carry_at(v: Slot, k: u8, cells: &mut [u32]) -> u8
     requires { ⌜ (length (now cells) ≡ cellCount) × Holds v × (k < v .count) ⌝ }
     ensures { λ r. ⌜ carriedAt v k (now (cells .entry)) ≡ ranTo r (now (cells .exit)) ⌝ }
+    ensures { λ r. ⌜ (0 < r → now (cells .exit) ≡ now (cells .entry)) ⌝ }
 {
     let i = k as usize;
     let op = v.ops[i];

@@ -4,7 +4,7 @@ use native.Mathlib.Omega.{arith}
 use mathlib.Core.Path.{_≡_, refl, sym, ap, _∙_, subst}
 use mathlib.Core.Bool.{true}
 use mathlib.Core.Option.{Option, none, some, Option·none-ne-some, Option·some-injective}
-use mathlib.Core.List.{List}
+use mathlib.Core.List.{List, _++_}
 use lib.Dec.{ltb}
 use lib.ListN.{length, take, drop}
 use lib.Seq.{take-append-seam}
@@ -25,7 +25,7 @@ by-request none f g = f refl
 by-request (some r) f g = g r refl
 
 -- the request of a record is valid
-valid-request : (b : List ℕ) (r : Request) → request b ≡ some r → valid r ≡ true
+pub valid-request : (b : List ℕ) (r : Request) → request b ≡ some r → valid r ≡ true
 unfolding request isRecord
 valid-request b r e =
     by-test (isRecord b)
@@ -148,3 +148,11 @@ wrote-at-most-168 bytes before a n after h e =
     (λ r q.
     let w = whole (textOf r) before n after (subst (λ (x : Answer). Handed (textOf r) before x after) e (h .is-record r q)) in
     omega (arith, w .long, at-most-168 r (valid-request bytes r q)))
+
+pub no-longer : (bytes : List ℕ) (r : Request) → request bytes ≡ some r → length (textOf r) ≤ 168
+no-longer bytes r e = at-most-168 r (valid-request bytes r e)
+
+-- and a buffer with room for one takes any
+pub with-room : (bytes before : List ℕ) (a : Answer) (after : List ℕ) (r : Request) → 168 ≤ length before → request bytes ≡ some r
+    → Wrote bytes before a after → (a ≡ wrote (length (textOf r))) × (after ≡ textOf r ++ drop (length (textOf r)) before)
+with-room bytes before a after r l e h = h .is-record r e .fits (omega (arith, no-longer bytes r e))

@@ -1,11 +1,10 @@
 //! The six calls: made by the archive, and what they must do by the rules of the build.
 
-use crate::plain::{from_plain, numbers, to_plain};
+use crate::plain::{from_plain, given, to_plain};
 use crate::subject::Subject;
-use model::answer::Answer;
-use model::site::Site;
-use shpendorak::Refusal;
-use shpendorak::raw::{self, NUMBERS, Numbers};
+use model::answer::Answer as Plain;
+use model::site::Site as PlainSite;
+use shpendorak::{Answer, Refusal, Site};
 
 /// A call and its arguments.
 #[derive(Clone, Debug, PartialEq, Eq)]
@@ -35,14 +34,11 @@ pub enum State {
 /// What a call answers, and what it leaves.
 #[derive(Clone, Debug, PartialEq, Eq)]
 pub struct Outcome {
-    /// The six numbers.
-    pub answer: Numbers,
+    /// The answer, or why it refuses.
+    pub answer: Result<Answer, Refusal>,
     /// The site handed back, and the cells.
     pub after: Subject,
 }
-
-/// An answer that no call gives, so that a number not written is noticed.
-const UNWRITTEN: Numbers = [u64::MAX; NUMBERS];
 
 impl Call {
     /// The place of the call's name.
@@ -57,35 +53,23 @@ impl Call {
         }
     }
 
-    /// Makes the call by the archive.
+    /// Makes the call by the library, as its users do.
     pub fn made(&self, before: &Subject) -> Outcome {
         let mut after = before.clone();
         let Subject { site, committed, working } = &mut after;
-        let (c, c_len) = (committed.as_mut_ptr(), committed.len());
-        let (w, w_len) = (working.as_mut_ptr(), working.len());
-        let mut said = UNWRITTEN;
-        let answer: *mut Numbers = &mut said;
-        // SAFETY: both runs and the record are lent with their lengths, the answer has six numbers.
-        *site = unsafe {
-            match self {
-                Call::Fresh => raw::shpendorak_fresh(c, c_len, w, w_len, answer),
-                Call::Offer { booking } => {
-                    let (b, b_len) = (booking.as_ptr(), booking.len());
-                    raw::shpendorak_offer(*site, c, c_len, w, w_len, b, b_len, answer)
-                }
-                Call::Confirm { id, number } => {
-                    raw::shpendorak_confirm(*site, c, c_len, w, w_len, *id, *number, answer)
-                }
-                Call::Work { class } => {
-                    raw::shpendorak_work(*site, c, c_len, w, w_len, *class, answer)
-                }
-                Call::Read { class, cell } => {
-                    raw::shpendorak_read(*site, c, c_len, w, w_len, *class, *cell, answer)
-                }
-                Call::Look { id } => raw::shpendorak_look(*site, c, c_len, w, w_len, *id, answer),
+        let answer = match self {
+            Call::Fresh => {
+                let started = Site::fresh(committed, working);
+                *site = started.as_ref().map_or(Subject::empty().site, |fresh| *fresh);
+                started.map(|_| Answer::Started)
             }
+            Call::Offer { booking } => site.offer(committed, working, booking),
+            Call::Confirm { id, number } => site.confirm(committed, working, *id, *number),
+            Call::Work { class } => site.work(committed, working, *class),
+            Call::Read { class, cell } => site.read(committed, working, *class, *cell),
+            Call::Look { id } => site.look(committed, working, *id),
         };
-        Outcome { answer: said, after }
+        Outcome { answer, after }
     }
 
     /// What the call must answer and leave.
@@ -96,18 +80,18 @@ impl Call {
                 refused(Refusal::WrongCells, Subject { site, ..before.clone() })
             }
             (State::WrongCells, _) => refused(Refusal::WrongCells, before.clone()),
-            (_, Call::Fresh) => Outcome { answer: STARTED, after: Subject::empty() },
+            (_, Call::Fresh) => Outcome { answer: Ok(Answer::Started), after: Subject::empty() },
             (State::Unsound, _) => refused(Refusal::Unsound, before.clone()),
             (State::Sound, _) => {
                 let mut plain = to_plain(before);
-                let answer = numbers(self.on(&mut plain));
+                let answer = given(self.on(&mut plain));
                 Outcome { answer, after: from_plain(&plain) }
             }
         }
     }
 
     /// Makes the call on the model; a number too wide for it becomes one that it refuses alike.
-    pub fn on(&self, plain: &mut Site) -> Answer {
+    pub fn on(&self, plain: &mut PlainSite) -> Plain {
         let narrow = |wide: u64| u32::try_from(wide).unwrap_or(NEITHER_ID_NOR_NUMBER);
         let byte = |wide: u64| u8::try_from(wide).unwrap_or(NEITHER_CLASS_NOR_CELL);
         match self {
@@ -121,8 +105,6 @@ impl Call {
     }
 }
 
-/// The answer of a fresh start.
-const STARTED: Numbers = [raw::STARTED, 0, 0, 0, 0, 0];
 /// No request has this id, and no confirmation this number.
 const NEITHER_ID_NOR_NUMBER: u32 = 0;
 /// There is no such class, and no such cell.
@@ -130,5 +112,5 @@ const NEITHER_CLASS_NOR_CELL: u8 = u8::MAX;
 
 /// A refusal that leaves a subject.
 fn refused(refusal: Refusal, after: Subject) -> Outcome {
-    Outcome { answer: numbers(Answer::Refused(refusal.number())), after }
+    Outcome { answer: Err(refusal), after }
 }

@@ -5,7 +5,8 @@ use crate::view::{kept, place_of, queue, recent};
 use model::answer::Answer;
 use model::record::{Op, Request};
 use model::site::{Class, Entry, Site};
-use shpendorak::raw::{self, CELLS, CLASSES, Numbers, SLOTS, Slot};
+use shpendorak::raw::{self, CELLS, CLASSES, SLOTS, Slot};
+use shpendorak::{Answer as Given, Refusal};
 
 /// The plain queues that a sound subject stands for.
 pub fn to_plain(subject: &Subject) -> Site {
@@ -110,24 +111,24 @@ fn raw_op(op: Op) -> raw::Op {
     }
 }
 
-/// An answer of the model as the six numbers of the archive.
-pub fn numbers(answer: Answer) -> Numbers {
-    let wide = |number: usize| number as u64;
-    match answer {
+/// An answer of the model as the library gives it.
+pub fn given(answer: Answer) -> Result<Given, Refusal> {
+    let narrow = |number: usize| number as u32;
+    Ok(match answer {
         Answer::Queued { id, class, place, slot } => {
-            [raw::QUEUED, id.into(), class.into(), wide(place), slot.into(), 0]
+            Given::Queued { id, class: class.into(), place: narrow(place), slot: slot.into() }
         }
-        Answer::Stepped { id, done } => [raw::STEPPED, id.into(), wide(done), 0, 0, 0],
-        Answer::Executed { id } => [raw::EXECUTED, id.into(), 0, 0, 0, 0],
+        Answer::Stepped { id, done } => Given::Stepped { id, done: narrow(done) },
+        Answer::Executed { id } => Given::Executed { id },
         Answer::Committed { id, number, mark, slot, backs } => {
-            [raw::COMMITTED, id.into(), number.into(), wide(mark), slot.into(), backs]
+            Given::Committed { id, number, mark: narrow(mark), slot: slot.into(), backs }
         }
-        Answer::Waiting { id, w, put_back } => {
-            [raw::WAITING, id.into(), wide(w), put_back.into(), 0, 0]
+        Answer::Waiting { id, w, put_back } => Given::Waiting { id, w: narrow(w), put_back },
+        Answer::Value(cell) => Given::Value(cell),
+        Answer::ToDo { w, backs } => Given::ToDo { w: narrow(w), backs },
+        Answer::Unconfirmed { backs } => Given::Unconfirmed { backs },
+        Answer::Refused(number) => {
+            return Err(Refusal::numbered(number.into()).expect("a refusal of a call"));
         }
-        Answer::Value(cell) => [raw::VALUE, cell.into(), 0, 0, 0, 0],
-        Answer::ToDo { w, backs } => [raw::TO_DO, wide(w), backs, 0, 0, 0],
-        Answer::Unconfirmed { backs } => [raw::UNCONFIRMED, backs, 0, 0, 0, 0],
-        Answer::Refused(number) => [raw::REFUSED, number.into(), 0, 0, 0, 0],
-    }
+    })
 }

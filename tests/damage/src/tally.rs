@@ -3,12 +3,11 @@
 use crate::call::{NAMES, Outcome, State};
 use crate::rules::RULES;
 use crate::subject::spots;
-use shpendorak::Refusal;
-use shpendorak::raw::{REFUSED, STARTED};
+use shpendorak::{Answer, Refusal};
 use std::io::{self, Write};
 
-/// The answers other than a refusal, in the order of their kinds.
-const ANSWERS: [&str; STARTED as usize] = [
+/// The answers other than a refusal.
+const ANSWERS: [&str; 9] = [
     "queued",
     "stepped",
     "executed",
@@ -19,6 +18,23 @@ const ANSWERS: [&str; STARTED as usize] = [
     "unconfirmed",
     "started",
 ];
+/// The place of an answer's word.
+fn place_of(answer: Answer) -> usize {
+    let word = match answer {
+        Answer::Queued { .. } => "queued",
+        Answer::Stepped { .. } => "stepped",
+        Answer::Executed { .. } => "executed",
+        Answer::Committed { .. } => "committed",
+        Answer::Waiting { .. } => "waiting",
+        Answer::Value(_) => "value",
+        Answer::ToDo { .. } => "to-do",
+        Answer::Unconfirmed { .. } => "unconfirmed",
+        Answer::Started => "started",
+        _ => unreachable!("{answer:?} is no answer of these calls"),
+    };
+    ANSWERS.iter().position(|known| *known == word).expect("every answer has a word")
+}
+
 /// The last refusal of a call.
 const REFUSALS: usize = Refusal::IdKept as usize;
 
@@ -50,11 +66,9 @@ impl Tally {
     pub fn count(&mut self, kind: usize, state: State, outcome: &Outcome) {
         self.calls[kind] += 1;
         self.states[state as usize] += 1;
-        let [what, number, ..] = outcome.answer.map(|number| number as usize);
-        if what == REFUSED as usize {
-            self.refusals[number - 1] += 1;
-        } else {
-            self.answers[what - 1] += 1;
+        match outcome.answer {
+            Ok(answer) => self.answers[place_of(answer)] += 1,
+            Err(refusal) => self.refusals[usize::from(refusal.number()) - 1] += 1,
         }
     }
 

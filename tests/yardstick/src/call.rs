@@ -1,9 +1,12 @@
 //! One call with what it is given, and the two kinds of site that take it.
 
-use crate::answer::Numbers;
 use crate::raw::{CLASSES, Site};
 use model::event::{CONFIRM, Event, OFFER, READ, WORK};
 use model::record::{CELLS, RECORD_BYTES, number_at};
+use shpendorak::{Answer, Refusal};
+
+/// What a call answers, or why it refuses.
+pub type Answered = Result<Answer, Refusal>;
 
 /// The cells of all classes, one class after another.
 pub const RUN: usize = CLASSES * CELLS;
@@ -55,8 +58,8 @@ pub struct Held {
 pub trait Takes {
     /// A fresh site with its cells cleared.
     fn fresh() -> Self;
-    /// Makes a call and answers its numbers.
-    fn take(&mut self, call: &Call) -> Numbers;
+    /// Makes a call.
+    fn take(&mut self, call: &Call) -> Answered;
     /// The site and cells as they are now.
     fn held(&mut self) -> &mut Held;
 }

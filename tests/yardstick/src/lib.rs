@@ -1,6 +1,5 @@
 //! The archive held against plain Rust with the same check: the same calls on both, their answers, time and stack.
 
-pub mod answer;
 pub mod archive;
 pub mod call;
 pub mod load;

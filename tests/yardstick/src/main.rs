@@ -7,9 +7,8 @@
 use std::env;
 use std::process::ExitCode;
 use std::time::{Duration, Instant};
-use yardstick::answer::Numbers;
 use yardstick::archive::Archive;
-use yardstick::call::{Call, Takes};
+use yardstick::call::{Answered, Call, Takes};
 use yardstick::load::{LOADS, Load, Script, kinds};
 use yardstick::plain::Plain;
 
@@ -27,7 +26,7 @@ struct Side<T> {
     /// The site that takes the calls.
     site: T,
     /// Every answer so far at the load.
-    answers: Vec<Numbers>,
+    answers: Vec<Answered>,
 }
 
 impl<T: Takes> Side<T> {
@@ -35,7 +34,7 @@ impl<T: Takes> Side<T> {
     fn at_load(script: &Script) -> Side<T> {
         let mut site = T::fresh();
         for call in &script.filling {
-            site.take(call);
+            let _ = site.take(call);
         }
         Side { site, answers: Vec::with_capacity(script.calls.len()) }
     }

@@ -4,12 +4,11 @@ pub mod cells;
 pub mod record;
 pub mod sound;
 
-use crate::answer::{Answer, NOT_SOUND, Numbers, WRONG_CELLS};
-use crate::call::{Call, Held, RUN, Takes};
+use crate::call::{Answered, Call, Held, RUN, Takes};
 use crate::raw::*;
 use cells::{carry, of_class};
-use model::answer::*;
 use model::record::CELLS;
+use shpendorak::{Answer, Refusal};
 use sound::{queue_of, sound};
 
 /// The slot that is free: all zero.
@@ -44,17 +43,16 @@ impl Takes for Plain {
         Plain(Held { site, committed: vec![0; RUN], working: vec![0; RUN] })
     }
 
-    /// Makes a call and answers its numbers.
-    fn take(&mut self, call: &Call) -> Numbers {
+    /// Makes a call.
+    fn take(&mut self, call: &Call) -> Answered {
         let Held { site, committed, working } = &mut self.0;
-        let answer = match *call {
+        match *call {
             Call::Offer(ref bytes) => offer(site, committed, working, bytes),
             Call::Confirm { id, number } => confirm(site, committed, working, id, number),
             Call::Work { class } => work(site, committed, working, class),
             Call::Read { class, cell } => read(site, committed, working, class, cell),
             Call::Look { id } => look(site, committed, working, id),
-        };
-        answer.unwrap_or_else(Answer::Refused).numbers()
+        }
     }
 
     /// The site and cells as they are now.
@@ -63,35 +61,33 @@ impl Takes for Plain {
     }
 }
 
-/// What a call answers, or the number of its refusal.
-type Answered = Result<Answer, u8>;
-
 /// The refusal that every call begins with, if there is one.
-fn door(site: &Site, committed: &[u32], working: &[u32]) -> Result<(), u8> {
+fn door(site: &Site, committed: &[u32], working: &[u32]) -> Result<(), Refusal> {
     if committed.len() != RUN || working.len() != RUN {
-        return Err(WRONG_CELLS);
+        return Err(Refusal::WrongCells);
     }
-    if sound(site, committed, working) { Ok(()) } else { Err(NOT_SOUND) }
+    if sound(site, committed, working) { Ok(()) } else { Err(Refusal::Unsound) }
 }
 
 /// Queues the request of a record.
 pub fn offer(site: &mut Site, committed: &[u32], working: &[u32], bytes: &[u8]) -> Answered {
     door(site, committed, working)?;
-    let taken = record::parse(bytes).ok_or(BAD_RECORD)?;
+    let taken = record::parse(bytes).ok_or(Refusal::BadRecord)?;
     let (id, class) = (taken.id, taken.class);
     if slot_of(site, id.into()).is_some() {
-        return Err(ID_QUEUED);
+        return Err(Refusal::IdQueued);
     }
     if site.kept.contains(&id) {
-        return Err(ID_KEPT);
+        return Err(Refusal::IdKept);
     }
-    let slot = lowest_free(site).ok_or(SITE_FULL)?;
+    let slot = lowest_free(site).ok_or(Refusal::SiteFull)?;
     site.slots[usize::from(slot)] = taken;
     set_used(site, slot, true);
     let len = &mut site.lens[usize::from(class)];
     site.queue[SLOTS * usize::from(class) + usize::from(*len)] = slot;
     *len += 1;
-    Ok(Answer::Queued { id, class, place: *len, slot })
+    let (class, place, slot) = (class.into(), (*len).into(), slot.into());
+    Ok(Answer::Queued { id, class, place, slot })
 }
 
 /// Confirms a queued id under the next number.
@@ -104,16 +100,16 @@ pub fn confirm(
 ) -> Answered {
     door(site, committed, working)?;
     if site.confirmations == u32::MAX {
-        return Err(NUMBERS_USED_UP);
+        return Err(Refusal::NumbersUsedUp);
     }
     let next = site.confirmations + 1;
     if number != next.into() {
-        return Err(WRONG_NUMBER);
+        return Err(Refusal::WrongNumber);
     }
-    let at = slot_of(site, id).ok_or(ID_NOT_QUEUED)?;
+    let at = slot_of(site, id).ok_or(Refusal::IdNotQueued)?;
     let Slot { id, class, count, number, done, .. } = site.slots[at];
     if number != 0 {
-        return Err(CONFIRMED_ALREADY);
+        return Err(Refusal::ConfirmedAlready);
     }
     let class = usize::from(class);
     let head = usize::from(site.queue[SLOTS * class]);
@@ -138,11 +134,11 @@ pub fn confirm(
 /// The head of a class does its next operation.
 pub fn work(site: &mut Site, committed: &mut [u32], working: &mut [u32], class: u64) -> Answered {
     door(site, committed, working)?;
-    let class = usize::try_from(class).ok().filter(|&c| c < CLASSES).ok_or(NO_SUCH_CLASS)?;
-    let at = usize::from(*queue_of(site, class).first().ok_or(NOTHING_TO_DO)?);
+    let class = usize::try_from(class).ok().filter(|&c| c < CLASSES).ok_or(Refusal::NoSuchClass)?;
+    let at = usize::from(*queue_of(site, class).first().ok_or(Refusal::NothingToDo)?);
     let head = &mut site.slots[at];
     if head.done == head.count {
-        return Err(NOTHING_TO_DO);
+        return Err(Refusal::NothingToDo);
     }
     let cells = of_class(working, class);
     if head.mark == 0 && !carry(&head.ops[usize::from(head.done)], cells) {
@@ -151,7 +147,7 @@ pub fn work(site: &mut Site, committed: &mut [u32], working: &mut [u32], class: 
     }
     head.done += 1;
     if head.done < head.count {
-        return Ok(Answer::Stepped { id: head.id, done: head.done });
+        return Ok(Answer::Stepped { id: head.id, done: head.done.into() });
     }
     if head.number == 0 {
         return Ok(Answer::Executed { id: head.id });
@@ -162,15 +158,15 @@ pub fn work(site: &mut Site, committed: &mut [u32], working: &mut [u32], class: 
 /// The committed cell of a class.
 pub fn read(site: &Site, committed: &[u32], working: &[u32], class: u64, cell: u64) -> Answered {
     door(site, committed, working)?;
-    let class = usize::try_from(class).ok().filter(|&c| c < CLASSES).ok_or(NO_SUCH_CLASS)?;
-    let cell = usize::try_from(cell).ok().filter(|&k| k < CELLS).ok_or(NO_SUCH_CELL)?;
+    let class = usize::try_from(class).ok().filter(|&c| c < CLASSES).ok_or(Refusal::NoSuchClass)?;
+    let cell = usize::try_from(cell).ok().filter(|&k| k < CELLS).ok_or(Refusal::NoSuchCell)?;
     Ok(Answer::Value(committed[CELLS * class + cell]))
 }
 
 /// W of a confirmed request, or that it is unconfirmed; and how often it was put back.
 pub fn look(site: &Site, committed: &[u32], working: &[u32], id: u64) -> Answered {
     door(site, committed, working)?;
-    let at = slot_of(site, id).ok_or(ID_NOT_QUEUED)?;
+    let at = slot_of(site, id).ok_or(Refusal::IdNotQueued)?;
     let Slot { class, number, backs, .. } = site.slots[at];
     if number == 0 {
         return Ok(Answer::Unconfirmed { backs });
@@ -233,5 +229,5 @@ fn commit(site: &mut Site, committed: &mut [u32], working: &[u32], class: usize)
     set_used(site, slot, false);
     site.commits += 1;
     let Slot { id, number, mark, backs, .. } = head;
-    Answer::Committed { id, number, mark, slot, backs }
+    Answer::Committed { id, number, mark: mark.into(), slot: slot.into(), backs }
 }

@@ -3,7 +3,6 @@
 //! Counted is every byte below the return address of the call, down to the lowest word that was written: the call's own frame and those of all
 //! that it calls. Not counted are the return address itself, and above it the caller's frame with the site that it hands over by value.
 
-use crate::answer::Numbers;
 use crate::call::{Call, Held};
 use crate::raw::*;
 use std::arch::{asm, naked_asm};

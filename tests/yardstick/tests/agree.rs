@@ -3,9 +3,9 @@
 use model::event::Event;
 use model::random::Random;
 use model::stream::{KINDS, Stream};
-use yardstick::answer::{Answer, NOT_SOUND, WRONG_CELLS};
+use shpendorak::Refusal;
 use yardstick::archive::Archive;
-use yardstick::call::{Call, Held, Takes};
+use yardstick::call::{Answered, Call, Held, Takes};
 use yardstick::load::{LOADS, Script};
 use yardstick::plain::Plain;
 use yardstick::raw::*;
@@ -34,13 +34,13 @@ fn held_at(load: usize, seed: u64) -> Held {
     let script = Script::new(LOADS[load], seed, LEAD);
     let mut site = Plain::fresh();
     for call in script.filling.iter().chain(&script.calls) {
-        site.take(call);
+        let _ = site.take(call);
     }
     site.0
 }
 
 /// Makes a call on both sides; what both answer and leave.
-fn both(held: &Held, call: &Call) -> ([u64; NUMBERS], Held) {
+fn both(held: &Held, call: &Call) -> (Answered, Held) {
     let (mut archive, mut plain) = (Archive(held.clone()), Plain(held.clone()));
     let (theirs, ours) = (archive.take(call), plain.take(call));
     assert_eq!(theirs, ours, "{call:?}");
@@ -48,11 +48,11 @@ fn both(held: &Held, call: &Call) -> ([u64; NUMBERS], Held) {
     (ours, plain.0)
 }
 
-/// Both sides refuse every call with a number and touch nothing.
-fn refused_untouched(held: &Held, number: u8) {
+/// Both sides refuse every call alike and touch nothing.
+fn refused_untouched(held: &Held, refusal: Refusal) {
     for call in calls() {
         let (answer, left) = both(held, &call);
-        assert_eq!(answer, Answer::Refused(number).numbers(), "{call:?}");
+        assert_eq!(answer, Err(refusal), "{call:?}");
         assert!(left == *held, "{call:?} touches what it refuses");
     }
 }
@@ -111,7 +111,7 @@ fn each_broken_rule_is_refused_with_2() {
         let mut held = sound.clone();
         spoil(&mut held);
         assert!(held != sound, "{rule}: nothing is spoiled");
-        refused_untouched(&held, NOT_SOUND);
+        refused_untouched(&held, Refusal::Unsound);
     }
 }
 
@@ -123,13 +123,13 @@ fn equal_ids_and_equal_numbers_are_refused_with_2() {
     for pair in used.windows(2) {
         let mut held = sound.clone();
         held.site.slots[pair[0]].id = held.site.slots[pair[1]].id;
-        refused_untouched(&held, NOT_SOUND);
+        refused_untouched(&held, Refusal::Unsound);
     }
     assert!(numbered.len() > 1);
     for pair in numbered.windows(2) {
         let mut held = sound.clone();
         held.site.slots[pair[0]].number = held.site.slots[pair[1]].number;
-        refused_untouched(&held, NOT_SOUND);
+        refused_untouched(&held, Refusal::Unsound);
     }
 }
 
@@ -146,7 +146,7 @@ fn wrong_cells_are_refused_with_1() {
     ] {
         let mut held = held_at(0, 7);
         spoil(&mut held);
-        refused_untouched(&held, WRONG_CELLS);
+        refused_untouched(&held, Refusal::WrongCells);
     }
 }
 
@@ -182,7 +182,7 @@ fn sites_spoiled_by_chance_are_judged_alike() {
         let mut held = sites[turn % sites.len()].clone();
         spoil_by_chance(&mut random, &mut held);
         let (answer, _) = both(&held, &calls()[turn % calls().len()]);
-        let refused = answer == Answer::Refused(NOT_SOUND).numbers();
+        let refused = answer == Err(Refusal::Unsound);
         *(if refused { &mut unsound } else { &mut sound }) += 1;
     }
     assert!(sound > 100 && unsound > 100, "{sound} sound, {unsound} not");

@@ -4,8 +4,7 @@ use native.Mathlib.Omega.{arith}
 use borrow.Author.Needs.{needs}
 use borrow.Author.Tests.{not-true, not-false}
 use Rattle.plain.proofs.Deciding.{decides-false, decides-as, decides-eq}
-use Rattle.store.specs.Checks.{flagOf, nth}
-use Rattle.store.proofs.Taking.{once-by-ids, range-of}
+use Rattle.store.proofs.Bare.{bare-range}
 use Rattle.checks.proofs.agree.Statement.{statement}
 use Rattle.checks.proofs.agree.Tie as tie
 
@@ -22,44 +21,42 @@ returns-3 : tie.Need-returns-3
 returns-3 c = decides-false (λ h. c .before .map-agrees .ensures .no (not-true _ (c .if3 .taken)) (h .map))
 
 each-once-requires : tie.Need-each-once-requires
-each-once-requires c κs = let pre· = c .before .before .before .before .before .before .pre in (pre· .0, pre· .1, c .before .before .before .before .before .lens-short .ensures .yes (not-false _ (c .before .before .before .before .if1 .left)), pre· .2)
+each-once-requires c κs =
+    let pre· = c .before .before .before .before .before .before .pre in
+    (pre· .0, (c .before .before .before .before .before .lens-short .ensures .yes (not-false _ (c .before .before .before .before .if1 .left)), pre· .1 .0, c .before .map-agrees .ensures .yes (not-false _ (c .if3 .left))))
 
 returns-4 : tie.Need-returns-4
-returns-4 c = let args· = c .before .before .before .before .before .before .before .before .args in decides-false (λ h. once-by-ids (args· .low) (args· .high) (nth (args· .ids .now)) (nth (args· .classes .now)) (args· .table) (args· .queue .now) (args· .lens .now) (c .before .before .before .map-agrees .ensures .yes (not-false _ (c .before .before .if3 .left))) (c .before .each-once .ensures) .no (not-true _ (c .if4 .taken)) (h .once))
-
-pairs-differ-requires : tie.Need-pairs-differ-requires
-pairs-differ-requires c κs = c .before .before .before .before .before .before .before .before .pre .3
+returns-4 c = decides-false (λ h. c .before .each-once .ensures .no (not-true _ (c .if4 .taken)) (h .once))
 
 returns-5 : tie.Need-returns-5
 returns-5 c = decides-false (λ h. c .before .pairs-differ .ensures .no (not-true _ (c .if5 .taken)) (h .differ))
 
 in-order-requires : tie.Need-in-order-requires
-in-order-requires c κs = let lens-short· = c .before .before .before .before .before .before .before .before .before .lens-short in let if1· = c .before .before .before .before .before .before .before .before .if1 in let args· = c .before .before .before .before .before .before .before .before .before .before .args in let pre· = c .before .before .before .before .before .before .before .before .before .before .pre in (lens-short· .ensures .yes (not-false _ (if1· .left)), range-of (flagOf (args· .low) (args· .high)) (nth (args· .classes .now)) (args· .table) (args· .queue .now) (args· .lens .now) (pre· .0) (pre· .1) (lens-short· .ensures .yes (not-false _ (if1· .left))) (c .before .before .before .each-once .ensures .yes (not-false _ (c .before .before .if4 .left))))
+in-order-requires c κs =
+    let short = c .before .before .before .before .before .before .before .before .before .lens-short .ensures .yes (not-false _ (c .before .before .before .before .before .before .before .before .if1 .left)) in
+    (short, bare-range (c .before .before .before .before .before .before .before .before .before .before .pre .0) short (c .before .before .before .each-once .ensures .yes (not-false _ (c .before .before .if4 .left))))
 
 returns-6 : tie.Need-returns-6
 returns-6 c = decides-false (λ h. c .before .in-order .ensures .no (not-true _ (c .if6 .taken)) (h .places))
 
-sums-right-requires : tie.Need-sums-right-requires
-sums-right-requires c κs = let lens-short· = c .before .before .before .before .before .before .before .before .before .before .before .lens-short in let if1· = c .before .before .before .before .before .before .before .before .before .before .if1 in let args· = c .before .before .before .before .before .before .before .before .before .before .before .before .args in let pre· = c .before .before .before .before .before .before .before .before .before .before .before .before .pre in (lens-short· .ensures .yes (not-false _ (if1· .left)), range-of (flagOf (args· .low) (args· .high)) (nth (args· .classes .now)) (args· .table) (args· .queue .now) (args· .lens .now) (pre· .0) (pre· .1) (lens-short· .ensures .yes (not-false _ (if1· .left))) (c .before .before .before .before .before .each-once .ensures .yes (not-false _ (c .before .before .before .before .if4 .left))))
-
 returns-7 : tie.Need-returns-7
-returns-7 c = decides-false (λ h. c .before .sums-right .ensures .no (not-true _ (c .if7 .taken)) (h .sums-right))
-
-returns-8 : tie.Need-returns-8
-returns-8 c = decides-false (λ h. c .before .free-zero .ensures .no (not-true _ (c .if8 .taken)) (h .free-zero))
-
-returns-9 : tie.Need-returns-9
-returns-9 c = let map-agrees· = c .before .before .before .before .before .before .before .before .before .before .before .before .map-agrees in let if3· = c .before .before .before .before .before .before .before .before .before .before .before .if3 in let args· = c .before .before .before .before .before .before .before .before .before .before .before .before .before .before .before .before .before .args in let numbered· = c .numbered in
+returns-7 c =
+    let numbered· = c .numbered in
+    let c₁ = c .before in
+    let c₂ = c₁ .before .before in
+    let c₃ = c₂ .before .before in
+    let c₄ = c₃ .before .before in
+    let c₅ = c₄ .before .before in
+    let c₆ = c₅ .before .before in
+    let args· = c₆ .before .before .args in
     decides-as
     (λ e. record {
-      short = c .before .before .before .before .before .before .before .before .before .before .before .before .before .before .before .before .lens-short .ensures .yes (not-false _ (c .before .before .before .before .before .before .before .before .before .before .before .before .before .before .before .if1 .left));
-      tails = c .before .before .before .before .before .before .before .before .before .before .before .before .before .before .tails-zero .ensures .yes (not-false _ (c .before .before .before .before .before .before .before .before .before .before .before .before .before .if2 .left));
-      map = map-agrees· .ensures .yes (not-false _ (if3· .left));
-      once = once-by-ids (args· .low) (args· .high) (nth (args· .ids .now)) (nth (args· .classes .now)) (args· .table) (args· .queue .now) (args· .lens .now) (map-agrees· .ensures .yes (not-false _ (if3· .left))) (c .before .before .before .before .before .before .before .before .before .before .each-once .ensures) .yes (not-false _ (c .before .before .before .before .before .before .before .before .before .if4 .left));
-      differ = c .before .before .before .before .before .before .before .before .pairs-differ .ensures .yes (not-false _ (c .before .before .before .before .before .before .before .if5 .left));
-      places = c .before .before .before .before .before .before .in-order .ensures .yes (not-false _ (c .before .before .before .before .before .if6 .left));
-      sums-right = c .before .before .before .before .sums-right .ensures .yes (not-false _ (c .before .before .before .if7 .left));
-      free-zero = c .before .before .free-zero .ensures .yes (not-false _ (c .before .if8 .left));
+      short = c₆ .before .lens-short .ensures .yes (not-false _ (c₆ .if1 .left));
+      tails = c₅ .before .tails-zero .ensures .yes (not-false _ (c₅ .if2 .left));
+      map = c₄ .before .map-agrees .ensures .yes (not-false _ (c₄ .if3 .left));
+      once = c₃ .before .each-once .ensures .yes (not-false _ (c₃ .if4 .left));
+      differ = c₂ .before .pairs-differ .ensures .yes (not-false _ (c₂ .if5 .left));
+      places = c₁ .before .in-order .ensures .yes (not-false _ (c₁ .if6 .left));
       tally = omega (arith, e, numbered· .ensures);
     })
     (λ h. omega (arith, h .tally, numbered· .ensures))
@@ -77,15 +74,11 @@ agree-spec =
     returns-3
     each-once-requires
     returns-4
-    pairs-differ-requires
+    (λ c κs. search needs)
     returns-5
     in-order-requires
     returns-6
-    sums-right-requires
-    returns-7
-    (λ c κs. search needs)
-    returns-8
     (λ c κs. search needs)
     (λ c. search needs)
     (λ c. search needs)
-    returns-9)
+    returns-7)

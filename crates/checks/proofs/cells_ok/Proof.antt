@@ -40,7 +40,7 @@ returns c =
     decides-false (λ h. rule (c .before .same-cells .ensures) .no (not-true _ (c .if2 .taken)) (h (loop· .c) (omega arith)))
 
 array-copy-out-v : tie.Need-array-copy-out-v Inv-loop μ-loop
-array-copy-out-v c = search needs
+array-copy-out-v c = c .before .before .before .before .before .pre .1 (c .before .before .loop .c) (omega arith) (c .if1 .left) .0
 
 mul-v : tie.Need-mul-v Inv-loop μ-loop
 mul-v c = let h = array-copy-out-v c in search needs
@@ -52,7 +52,7 @@ head-ok-requires c κs =
     let pre· = c .before .before .before .before .before .before .before .before .pre in (
       lent-long (args· .committed .now) (loop· .c) (pre· .0 .0) (omega arith),
       lent-long (args· .working .now) (loop· .c) (pre· .0 .1) (omega arith),
-      pre· .1 (loop· .c) (omega arith) (c .before .before .before .if1 .left),
+      pre· .1 (loop· .c) (omega arith) (c .before .before .before .if1 .left) .1,
     )
 
 returns-2 : tie.Need-returns-2 Inv-loop μ-loop

@@ -4,19 +4,19 @@ use native.Mathlib.Omega.{arith}
 use borrow.Author.Count.{below-none, below-more}
 use borrow.Author.Needs.{needs}
 use borrow.Author.Tests.{not-true, not-false}
-use Rattle.plain.specs.Sizes.{classCount, mostQueued}
+use Rattle.plain.specs.Sizes.{classCount, slotCount}
 use Rattle.plain.proofs.Deciding.{decides-true, decides-false}
 use Rattle.store.specs.Checks.{QueueOk, nth}
 use Rattle.checks.proofs.in_order.Statement.{statement}
 use Rattle.checks.proofs.in_order.Tie as tie
 
 abbrev Inv-loop : tie.InvT-loop
-Inv-loop lines dones marks queue lens confirmations c₀ c =
+Inv-loop numbers dones marks queue lens confirmations c₀ c =
     (c ≤ classCount)
-    × ((k : ℕ) → k < c → QueueOk (nth lines) (nth dones) (nth marks) queue confirmations (mostQueued * k) (nth lens k))
+    × ((k : ℕ) → k < c → QueueOk (nth numbers) (nth dones) (nth marks) queue confirmations (slotCount * k) (nth lens k))
 
 abbrev μ-loop : tie.MeasureT-loop
-μ-loop lines dones marks queue lens confirmations c₀ c = classCount - c
+μ-loop numbers dones marks queue lens confirmations c₀ c = classCount - c
 
 loop-holds : tie.Need-loop-holds Inv-loop μ-loop
 loop-holds c = (search needs, below-none _)

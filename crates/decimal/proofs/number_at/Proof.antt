@@ -7,7 +7,7 @@ use mathlib.Core.List.{List, [], _∷_, _++_}
 use lib.ListN.{length, getD, drop, drop-of-length-le}
 use borrow.Author.Needs.{needs}
 use Rattle.decimal.specs.Decimal.{decimal, NumberAt}
-use Rattle.decimal.proofs.Runs.{Digit, one-digit, no-text, no-digit, refuse, at-place}
+use Rattle.decimal.proofs.Runs.{Digit, one-digit, no-text, no-digit, refuse, at-place, stayed}
 use Rattle.decimal.proofs.number_at.Statement.{statement}
 use Rattle.decimal.proofs.number_at.Tie as tie
 
@@ -29,17 +29,17 @@ returns : tie.Need-returns
 returns c =
     let args = c .before .before .args in
     let s : Digit (args .stop) → ⊥ = λ d. omega arith in
-    (rw (drop-of-length-le (args .text .now) {i = args .at} (omega arith)) (refuse _ _ s _ _ (no-text _ _ s)), search needs)
+    (rw (drop-of-length-le (args .text .now) {i = args .at} (omega arith)) (refuse _ _ s _ _ (no-text _ _ s)), (search needs, stayed _))
 
 returns-2 : tie.Need-returns-2
 returns-2 c =
     let args = c .before .before .before .before .args in
-    (not-first (args .text .now) _ (args .at) _ _ (λ d. omega arith) (search needs) (λ d. omega arith), search needs)
+    (not-first (args .text .now) _ (args .at) _ _ (λ d. omega arith) (search needs) (λ d. omega arith), (search needs, stayed _))
 
 returns-3 : tie.Need-returns-3
 returns-3 c =
     let args = c .before .before .before .before .before .args in
-    (not-first (args .text .now) _ (args .at) _ _ (λ d. omega arith) (search needs) (λ d. omega arith), search needs)
+    (not-first (args .text .now) _ (args .at) _ _ (λ d. omega arith) (search needs) (λ d. omega arith), (search needs, stayed _))
 
 number-from-requires : tie.Need-number-from-requires
 number-from-requires c κs =

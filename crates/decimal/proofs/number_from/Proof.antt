@@ -6,7 +6,7 @@ use mathlib.Core.List.{List, [], _∷_, _++_}
 use lib.ListN.{length, getD, drop, drop-of-length-le}
 use borrow.Author.Needs.{needs}
 use Rattle.decimal.specs.Decimal.{decimal}
-use Rattle.decimal.proofs.Runs.{Digit, ended, stopped, zero-first, too-large, refuse, accept, longer, at-place}
+use Rattle.decimal.proofs.Runs.{Digit, ended, stopped, zero-first, too-large, refuse, accept, longer, at-place, stayed, went-past}
 use Rattle.decimal.proofs.number_from.Statement.{statement}
 use Rattle.decimal.proofs.number_from.Tie as tie
 
@@ -31,7 +31,7 @@ returns c =
     let loop = c .before .before .before .loop in
     let p = behind (args .text .now) (args .at) (loop .i) (loop .value) (search needs) (loop .inv .2) in
     let q : getD (args .text .now) (loop .i) 0 ≡ args .stop = c .if1 .taken in
-    (accept _ _ (λ d. omega arith) _ _ _ (search needs) (rw q at p), search needs)
+    (accept _ _ (λ d. omega arith) _ _ _ (search needs) (rw q at p), (search needs, went-past _ _ _ _ (search needs) (search needs) (loop .inv .2)))
 
 returns-2 : tie.Need-returns-2 Inv-loop μ-loop
 returns-2 c =
@@ -39,7 +39,7 @@ returns-2 c =
     let loop = c .before .before .before .before .loop in
     let p = behind (args .text .now) (args .at) (loop .i) (loop .value) (search needs) (loop .inv .2) in
     let s : Digit (args .stop) → ⊥ = λ d. omega arith in
-    (refuse _ _ s _ _ (stopped _ _ s _ _ _ _ (λ d. omega arith) (c .before .if1 .left) p), search needs)
+    (refuse _ _ s _ _ (stopped _ _ s _ _ _ _ (λ d. omega arith) (c .before .if1 .left) p), (search needs, stayed _))
 
 returns-3 : tie.Need-returns-3 Inv-loop μ-loop
 returns-3 c =
@@ -47,7 +47,7 @@ returns-3 c =
     let loop = c .before .before .before .before .before .loop in
     let p = behind (args .text .now) (args .at) (loop .i) (loop .value) (search needs) (loop .inv .2) in
     let s : Digit (args .stop) → ⊥ = λ d. omega arith in
-    (refuse _ _ s _ _ (stopped _ _ s _ _ _ _ (λ d. omega arith) (c .before .before .if1 .left) p), search needs)
+    (refuse _ _ s _ _ (stopped _ _ s _ _ _ _ (λ d. omega arith) (c .before .before .if1 .left) p), (search needs, stayed _))
 
 returns-4 : tie.Need-returns-4 Inv-loop μ-loop
 returns-4 c =
@@ -56,7 +56,7 @@ returns-4 c =
     let p = behind (args .text .now) (args .at) (loop .i) (loop .value) (search needs) (loop .inv .2) in
     let s : Digit (args .stop) → ⊥ = λ d. omega arith in
     let z : loop .value ≡ 0 = c .if4 .taken in
-    (refuse _ _ s _ _ (zero-first _ _ s _ _ _ (omega arith, omega arith) (rw z at p)), search needs)
+    (refuse _ _ s _ _ (zero-first _ _ s _ _ _ (omega arith, omega arith) (rw z at p)), (search needs, stayed _))
 
 returns-5 : tie.Need-returns-5 Inv-loop μ-loop
 returns-5 c =
@@ -64,7 +64,7 @@ returns-5 c =
     let loop = c .before .before .before .before .before .before .before .loop in
     let p = behind (args .text .now) (args .at) (loop .i) (loop .value) (search needs) (loop .inv .2) in
     let s : Digit (args .stop) → ⊥ = λ d. omega arith in
-    (refuse _ _ s _ _ (too-large _ _ s _ _ _ _ (omega arith, omega arith) (omega arith) (c .if5 .taken) p), search needs)
+    (refuse _ _ s _ _ (too-large _ _ s _ _ _ _ (omega arith, omega arith) (omega arith) (c .if5 .taken) p), (search needs, stayed _))
 
 loop-again : tie.Need-loop-again Inv-loop μ-loop
 loop-again c =
@@ -80,7 +80,7 @@ returns-6 c =
     let loop = c .before .loop in
     let s : Digit (args .stop) → ⊥ = λ d. omega arith in
     let e : drop (loop .i) (args .text .now) ≡ [] = drop-of-length-le (args .text .now) {i = loop .i} (omega arith) in
-    (refuse _ _ s _ _ (ended _ _ s _ _ (rw e at (loop .inv .2))), search needs)
+    (refuse _ _ s _ _ (ended _ _ s _ _ (rw e at (loop .inv .2))), (search needs, stayed _))
 
 pub number-from-spec : {M : Type 1} → statement M
 number-from-spec =

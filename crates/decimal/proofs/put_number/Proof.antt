@@ -23,7 +23,7 @@ returns c =
     let args = c .before .before .before .before .before .before .before .before .args in
     let e = decimal-call .ensures .1 .1 ∙ is-decimal _ _ (decimal-call .ensures .1 .0) in (
       put .ensures .0 ∙ ap (λ (t : List ℕ). args .at + length t) e,
-      put .ensures .1 .0 ∙ ap (λ (t : List ℕ). take (args .at) (args .to .now) ++ t) e,
+      (put .ensures .1 .0 ∙ ap (λ (t : List ℕ). take (args .at) (args .to .now) ++ t) e, put .ensures .1 .1),
     )
 
 pub put-number-spec : {M : Type 1} → statement M

@@ -1,29 +1,30 @@
--- `show_record` meets its contract: no text is longer than 168 bytes. Assumes nothing.
-use Prim.Native.Nat.{_≤_}
+-- `show_record` meets its contract: there is room for any text, so it is written, or the bytes are no record. Assumes nothing.
 use native.Mathlib.Omega.{arith}
 use mathlib.Core.Path.{ap}
+use mathlib.Core.List.{[]}
 use borrow.Author.Needs.{needs}
 use Rattle.text.specs.Calls.{answerOf}
-use Rattle.text.proofs.Laws.{wrote-at-most-168}
+use Rattle.refusal.proofs.Outcomes.{no-length}
+use Rattle.shown.proofs.Showing.{none-shown, one-shown}
 use Rattle.shown.proofs.show_record.Statement.{statement}
 use Rattle.shown.proofs.show_record.Tie as tie
 
+returns : tie.Need-returns
+returns c =
+    let args = c .before .before .before .before .before .before .before .args in
+    (none-shown (args .bytes .now) (args .text .now) (args .len) (c .before .before .before .before .before .before .before .pre) _ _ _ (c .before .before .before .write .ensures) (no-length (c .before .before .before .write .result) (c .match .keys2)), search needs)
+
 add-t7 : tie.Need-add-t7
 add-t7 c =
-    let outcome = c .before .outcome in
-    let write = c .before .before .before .before .before .write in
-    let pre = c .before .before .before .before .before .before .before .before .before .pre in
-    let n = outcome .given .0 .0 in
-    let l : n ≤ 168 = wrote-at-most-168 _ _ _ n _ (write .ensures) (ap answerOf (outcome .given .1)) in
-    omega (arith, pre)
+    let args = c .before .before .before .before .before .before .before .before .before .args in
+    let shown = one-shown (args .bytes .now) (args .text .now) (args .len) (c .before .before .before .before .before .before .before .before .before .pre) _ _ [] (c .before .before .before .before .before .write .ensures) _ (ap answerOf (c .before .outcome .given .1)) in
+    omega (arith, shown .1)
 
 returns-2 : tie.Need-returns-2
 returns-2 c =
-    let outcome = c .before .outcome in
-    let write = c .before .before .before .before .before .write in
-    let n = outcome .given .0 .0 in
-    let l : n ≤ 168 = wrote-at-most-168 _ _ _ n _ (write .ensures) (ap answerOf (outcome .given .1)) in
-    omega arith
+    let args = c .before .before .before .before .before .before .before .before .before .args in
+    let shown = one-shown (args .bytes .now) (args .text .now) (args .len) (c .before .before .before .before .before .before .before .before .before .pre) _ _ _ (c .before .before .before .before .before .write .ensures) _ (ap answerOf (c .before .outcome .given .1)) in
+    (shown .0, omega (arith, shown .1))
 
 pub show-record-spec : {M : Type 1} → statement M
 show-record-spec =
@@ -35,7 +36,7 @@ show-record-spec =
     (λ c κs. search needs)
     (λ c. search needs)
     (λ c. search needs)
-    (λ c. search needs)
+    returns
     add-t7
     (λ c. search needs)
     returns-2)

@@ -14,14 +14,20 @@ small-slot : (i : ℕ) → i < 128 → i % 256 ≡ i
 small-slot i m = omega arith
 
 commit-requires : tie.Need-commit-requires
-commit-requires c κs = let args· = c .before .before .before .before .before .args in let pre· = c .before .before .before .before .before .pre in
-    commits (stateOf (args· .t1) (now (args· .committed)) (now (args· .working))) (shaped (args· .t1) _ (c .before .before .before .before .before .good .0)) (args· .i) (pre· .0) (pre· .1)
+commit-requires c κs =
+    let c₁ = c .before .before .before .before .before in
+    let args· = c₁ .args in
+    let pre· = c₁ .pre in
+    commits (stateOf (args· .t1) (now (args· .committed)) (now (args· .working))) (shaped (args· .t1) _ (c₁ .good .0)) (args· .i) (pre· .0) (pre· .1)
     _ refl
 
 returns : tie.Need-returns
-returns c = let args· = c .before .before .before .before .before .before .before .before .args in let pre· = c .before .before .before .before .before .before .before .before .pre in
+returns c =
+    let c₁ = c .before .before .before .before .before .before .before .before in
+    let args· = c₁ .args in
+    let pre· = c₁ .pre in
     rw (small-slot (args· .i) (pre· .0 .small)) (committed (stateOf (args· .t1) (now (args· .committed)) (now (args· .working))) (shaped (args· .t1) _
-    (c .before .before .before .before .before .before .before .before .good .0)) (args· .i) (pre· .0) (pre· .1) _ refl _ _ (c .before .before .commit .ensures))
+    (c₁ .good .0)) (args· .i) (pre· .0) (pre· .1) _ refl _ _ (c .before .before .commit .ensures))
 
 pub confirm-now-spec : {M : Type 1} → statement M
 confirm-now-spec =

@@ -9,7 +9,8 @@ returns c = decides-false (λ h. c .if1 .taken (rw (c .before .before .pre .2) (
 
 returns-2 : tie.Need-returns-2
 returns-2 c =
-    decides-as (λ e. (rw (← (c .before .before .before .before .pre .2)) (c .before .before .if1 .left), e)) (λ h. h .1) (decides-eq _ _)
+    let c₁ = c .before .before .before .before in
+    decides-as (λ e. (rw (← (c₁ .pre .2)) (c .before .before .if1 .left), e)) (λ h. h .1) (decides-eq _ _)
 
 pub head-done-spec : {M : Type 1} → statement M
 head-done-spec =

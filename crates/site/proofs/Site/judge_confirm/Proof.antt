@@ -15,12 +15,17 @@ returns : tie.Need-returns
 returns c = record { act = λ e. absurd (c .if1 .taken e); refuse = λ n. c .before .door .ensures .shut n _ }
 
 returns-2 : tie.Need-returns-2
-returns-2 c = let args· = c .before .before .before .before .before .before .args in
-    let o· = c .before .before .before .door .ensures .open-to (c .before .before .if1 .left) in
+returns-2 c =
+    let c₁ = c .before .before .before in
+    let c₂ = c₁ .before .before .before in
+    let door· = c₁ .door in
+    let if1· = c .before .before .if1 in
+    let args· = c₂ .args in
+    let o· = door· .ensures .open-to (if1· .left) in
     record {
       act = λ e. absurd (omega arith);
       refuse = λ n. called-did _ _ _ _ (o· .0) (o· .1) (all-taken (stateOf (args· .self) (now (args·
-          .committed)) (now (args· .working))) (shaped (args· .self) _ (c .before .before .before .before .before .before .good .0)) (o· .0) (o· .1) (args· .id) (args· .number) (omega (
+          .committed)) (now (args· .working))) (shaped (args· .self) _ (c₂ .good .0)) (o· .0) (o· .1) (args· .id) (args· .number) (omega (
             arith,
             c .if2
                 .taken,
@@ -28,50 +33,92 @@ returns-2 c = let args· = c .before .before .before .before .before .before .ar
     }
 
 returns-3 : tie.Need-returns-3
-returns-3 c = let args· = c .before .before .before .before .before .before .before .before .args in let good· = c .before .before .before .before .before .before .before .before .good in
-    let o· = c .before .before .before .before .before .door .ensures .open-to (c .before .before .before .before .if1 .left) in
+returns-3 c =
+    let c₁ = c .before .before .before .before in
+    let c₂ = c₁ .before in
+    let c₃ = c₂ .before .before .before in
+    let door· = c₂ .door in
+    let if1· = c₁ .if1 in
+    let args· = c₃ .args in
+    let good· = c₃ .good in
+    let o· = door· .ensures .open-to (if1· .left) in
     record {
       act = λ e. absurd (omega arith);
       refuse = λ n. called-did _ _ _ _ (o· .0) (o· .1) (not-next (stateOf (args· .self) (now (args·
           .committed)) (now (args· .working))) (shaped (args· .self) _ (good· .0)) (o· .0) (o· .1) (args· .id) (args· .number) (omega (
             arith,
-            c .before .before .if2 .left,
+            c .before
+                .before .if2 .left,
             good· .0,
           )) (c .if3 .taken));
     }
 
 returns-4 : tie.Need-returns-4
-returns-4 c = let args· = c .before .before .before .before .before .before .before .before .before .before .args in let good· = c .before .before .before .before .before .before .before .before .before .before .good in
-    let o· = c .before .before .before .before .before .before .before .door .ensures .open-to (c .before .before .before .before .before .before .if1 .left) in
+returns-4 c =
+    let c₁ = c .before .before .before .before in
+    let c₂ = c₁ .before .before in
+    let c₃ = c₂ .before in
+    let c₄ = c₃ .before .before .before in
+    let door· = c₃ .door in
+    let if1· = c₂ .if1 in
+    let args· = c₄ .args in
+    let good· = c₄ .good in
+    let o· = door· .ensures .open-to (if1· .left) in
     record {
       act = λ e. absurd (omega arith);
       refuse = λ n. called-did _ _ _ _ (o· .0) (o· .1) (unknown (stateOf (args· .self) (now (args·
           .committed)) (now (args· .working))) (shaped (args· .self) _ (good· .0)) (o· .0) (o· .1) (args· .id) (args· .number) (omega (
             arith,
-            c .before .before .before .before .if2 .left,
+            c₁ .if2 .left,
             good· .0,
           )) (c .before .before .if3 .left) (c .before .slot-of .ensures .absent (omega (arith, c .if4 .taken))));
     }
 
 returns-5 : tie.Need-returns-5
-returns-5 c = let slot-of· = c .before .before .before .before .slot-of in let if4· = c .before .before .before .if4 in let args· = c .before .before .before .before .before .before .before .before .before .before .before .before .before .args in let good· = c .before .before .before .before .before .before .before .before .before .before .before .before .before .good in
-    let o· = c .before .before .before .before .before .before .before .before .before .before .door .ensures .open-to (c .before .before .before .before .before .before .before .before .before .if1 .left) in
+returns-5 c =
+    let c₁ = c .before .before .before in
+    let c₂ = c₁ .before in
+    let c₃ = c₂ .before in
+    let c₄ = c₃ .before .before in
+    let c₅ = c₄ .before .before in
+    let c₆ = c₅ .before in
+    let c₇ = c₆ .before .before .before in
+    let door· = c₆ .door in
+    let if1· = c₅ .if1 in
+    let args· = c₇ .args in
+    let good· = c₇ .good in
+    let slot-of· = c₂ .slot-of in
+    let if4· = c₁ .if4 in
+    let o· = door· .ensures .open-to (if1· .left) in
     let found· = slot-of· .ensures .found (omega (arith, if4· .left)) in
     record {
       act = λ e. absurd (omega arith);
       refuse = λ n. called-did _ _ _ _ (o· .0) (o· .1) (confirmed-already (stateOf (args· .self) (now (args·
           .committed)) (now (args· .working))) (shaped (args· .self) _ (good· .0)) (o· .0) (o· .1) (args· .id) (args· .number) (omega (
             arith,
-            c .before .before .before .before .before .before .before .if2 .left,
+            c₄ .if2 .left,
             good· .0,
-          )) (c .before .before .before .before .before .if3 .left) (slot-of· .result) (omega (arith, if4· .left)) (found· .0) (found· .1) (rw (← (c .before .before .slot .ensures))
+          )) (c₃ .if3 .left) (slot-of· .result) (omega (arith, if4· .left)) (found· .0) (found· .1) (rw (← (c .before .before .slot .ensures))
           (omega (arith, c .if5 .taken))));
     }
 
 returns-6 : tie.Need-returns-6
-returns-6 c = let if4· = c .before .before .before .before .if4 in let slot· = c .before .before .before .slot in
-    let o· = c .before .before .before .before .before .before .before .before .before .before .before .door .ensures .open-to (c .before .before .before .before .before .before .before .before .before .before .if1 .left) in
-    let found· = c .before .before .before .before .before .slot-of .ensures .found (omega (arith, if4· .left)) in
+returns-6 c =
+    let c₁ = c .before .before .before in
+    let c₂ = c₁ .before in
+    let c₃ = c₂ .before in
+    let c₄ = c₃ .before in
+    let c₅ = c₄ .before .before in
+    let c₆ = c₅ .before .before in
+    let c₇ = c₆ .before in
+    let c₈ = c₇ .before .before .before in
+    let door· = c₇ .door in
+    let if1· = c₆ .if1 in
+    let if4· = c₂ .if4 in
+    let slot-of· = c₃ .slot-of in
+    let slot· = c₁ .slot in
+    let o· = door· .ensures .open-to (if1· .left) in
+    let found· = slot-of· .ensures .found (omega (arith, if4· .left)) in
     record {
       act = λ e. record {
         ready = record {
@@ -84,11 +131,11 @@ returns-6 c = let if4· = c .before .before .before .before .if4 in let slot· =
             found· .1,
           );
           waits = rw (← (slot· .ensures)) (omega (arith, c .before .if5 .left));
-          more = (omega (arith, c .before .before .before .before .before .before .before .before .if2 .left, c .before .before .before .before .before .before .before .before .before .before .before .before .before .before .good .0));
+          more = (omega (arith, c₅ .if2 .left, c₈ .good .0));
         };
         is =
             found· .0;
-        next = c .before .before .before .before .before .before .if3 .left;
+        next = c₄ .if3 .left;
         class = ap (λ (v : Slot). v .class) (slot· .ensures);
       };
       refuse = λ n. absurd (n refl);

@@ -129,9 +129,6 @@ enqueue-requires c κs =
           (used-count· .ensures) (if4· .left)),
     )
 
-cast-c : tie.Need-cast-c
-cast-c c = let read-record· = c .before .before .before .before .before .before .before .before .before .before .before .before .before .read-record in record { fits = omega (arith, has-class (read-record· .result .slot) (read-record· .ensures .0 .new (not-false (read-record· .result .ok) (c .before .before .before .before .before .before .before .before .before .before .before .if1 .left)) .held)) }
-
 element-copy-out-place : tie.Need-element-copy-out-place
 element-copy-out-place c =
     let c₁ = c .before .before .before .before .before .before .before .before .before .before .before in
@@ -205,7 +202,7 @@ offer-sound-spec =
     returns-4
     (λ c κs. search needs)
     enqueue-requires
-    cast-c
+    (λ c. search needs)
     element-copy-out-place
     (λ c. search needs)
     returns-5)

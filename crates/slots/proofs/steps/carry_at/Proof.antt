@@ -22,14 +22,15 @@ carry-requires c κs =
 returns : tie.Need-returns
 returns c =
     let carry = c .before .before .before .carry in
-    ap (P.reported (suc (c .before .before .before .before .before .before .before .args .k))) (carry .ensures) ∙ rw (c .if1 .taken)
+    let k = c .before .before .before .before .before .before .before .args .k in
+    (ap (P.reported (suc k)) (carry .ensures .0) ∙ rw (c .if1 .taken), (λ l. absurd (omega arith)))
 
 returns-2 : tie.Need-returns-2
 returns-2 c =
     let carry = c .before .before .before .carry in
     let k = c .before .before .before .before .before .before .before .args .k in
     let ne : suc k ≡ 0 → ⊥ = λ z. omega arith in
-    ap (P.reported (suc k)) (carry .ensures) ∙ rw (c .if1 .left, add-one, ne-eqb (suc k) 0 ne)
+    (ap (P.reported (suc k)) (carry .ensures .0) ∙ rw (c .if1 .left, add-one, ne-eqb (suc k) 0 ne), (λ l. carry .ensures .1 (c .if1 .left)))
 
 pub carry-at-spec : {M : Type 1} → statement M
 carry-at-spec =

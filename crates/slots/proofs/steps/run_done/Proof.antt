@@ -42,7 +42,7 @@ returns c =
     let base = start .args .from .now in
     let good = seven v _ (start .good .0) in
     let more = one-more v good (start .pre .1) base (loop .k) (omega arith) (loop .work) (loop .inv .1) in
-    let n = stays-declined v good (start .pre .1) base (loop .k) (omega arith) (v .done) m (omega arith) (more ∙ carry .ensures ∙ rw r) in
+    let n = stays-declined v good (start .pre .1) base (loop .k) (omega arith) (v .done) m (omega arith) (more ∙ carry .ensures .0 ∙ rw r) in
     record { mark-is = rw n; cells = rw n (c .before .copy-cells2 .ensures) }
 
 loop-again : tie.Need-loop-again Inv-loop μ-loop
@@ -54,7 +54,7 @@ loop-again c =
     let base = start .args .from .now in
     let good = seven v _ (start .good .0) in
     let more = one-more v good (start .pre .1) base (loop .k) (omega arith) (loop .work) (loop .inv .1) in
-    (search needs, rw add-one (more ∙ carry .ensures ∙ rw (c .if2 .left)), search needs)
+    (search needs, rw add-one (more ∙ carry .ensures .0 ∙ rw (c .if2 .left)), search needs)
 
 returns-2 : tie.Need-returns-2 Inv-loop μ-loop
 returns-2 c =

@@ -30,7 +30,7 @@ returns-2 c =
     let m = carry .result in
     let if1 = c .before .before .before .before .before .before .before .before .before .if1 in
     let r = ne-eqb m 0 (c .before .before .before .before .if2 .taken) in
-    step-as v _ _ _ m (P.declined m) (rw (if1 .left) (carry .ensures ∙ rw r)) refl (c .before .before .copy-cells .ensures)
+    step-as v _ _ _ m (P.declined m) (rw (if1 .left) (carry .ensures .0 ∙ rw r)) refl (c .before .before .copy-cells .ensures)
 
 returns-3 : tie.Need-returns-3
 returns-3 c =
@@ -38,7 +38,7 @@ returns-3 c =
     let v = c .before .before .before .before .before .before .before .before .before .args .v in
     let if1 = c .before .before .before .before .before .if1 in
     let r = c .if2 .left in
-    step-as v _ _ _ (carry .result) (P.carried _) (rw (if1 .left) (carry .ensures ∙ rw r)) r refl
+    step-as v _ _ _ (carry .result) (P.carried _) (rw (if1 .left) (carry .ensures .0 ∙ rw r)) r refl
 
 pub step-spec : {M : Type 1} → statement M
 step-spec =

@@ -26,7 +26,7 @@ returns c =
     let put-number = c .before .before .put-number in
     let e = one-blanked (args .n) in (
       omega (arith, ap length e, put .ensures .0, put-number .ensures .0),
-      then-put (take (args .at) (args .to .now)) _ _ (blank ∷ []) _ (put .ensures .1 .0) (put-number .ensures .1) ∙ ap (λ (t : List ℕ). take (args .at) (args .to .now) ++ t) (sym e),
+      then-put (take (args .at) (args .to .now)) _ _ (blank ∷ []) _ (put .ensures .1 .0) (put-number .ensures .1 .0) ∙ ap (λ (t : List ℕ). take (args .at) (args .to .now) ++ t) (sym e),
     )
 
 pub put-blanked-spec : {M : Type 1} → statement M

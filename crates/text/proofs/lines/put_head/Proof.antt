@@ -39,7 +39,7 @@ returns c =
     let put = c .before .before .put in
     let d = at-most (args .id) 10 (omega arith) (omega arith) in
     let b = blanked-short (args .class) 2 (omega arith) (omega (arith, pre .0)) in
-    let numbered = then-put [] _ _ (decimal (args .id)) _ (put-number .ensures .1) (put-blanked .ensures .1) in (
+    let numbered = then-put [] _ _ (decimal (args .id)) _ (put-number .ensures .1 .0) (put-blanked .ensures .1) in (
       omega (arith, put-number .ensures .0, put-blanked .ensures .0, put .ensures .0),
       then-put [] _ _ (decimal (args .id) ++ blanked (args .class ∷ [])) _ numbered (put .ensures .1 .0) ∙ head-pieces (args .id) (args .class),
     )

@@ -1,0 +1,2 @@
+-- the events of an input, and what comes of them
+pub mod Listing

@@ -1,0 +1,3 @@
+-- the laws of cutting, and inputs cut
+pub mod Cutting
+pub mod Examples

@@ -1,0 +1,2 @@
+-- the promises of a call, from its contract
+pub mod Promised

@@ -1,0 +1,2 @@
+-- what is promised of the calls that are made
+pub mod Promised

@@ -1,2 +1,0 @@
--- What the table of queries means.
-pub mod Table

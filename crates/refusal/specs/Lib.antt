@@ -1,0 +1,2 @@
+-- what is said of a refusal
+pub mod Said

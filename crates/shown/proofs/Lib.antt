@@ -1,0 +1,2 @@
+-- how showing goes on from record to record
+pub mod Showing

@@ -1,0 +1,2 @@
+-- how an input of records is shown
+pub mod Showing

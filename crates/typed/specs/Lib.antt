@@ -1,0 +1,3 @@
+-- how an input of bookings is taken: read in this order
+pub mod Bookings
+pub mod Taking
