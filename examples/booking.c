@@ -1,6 +1,6 @@
-/* Two bookings on one site, from the wire to their commits: class 3 is a bay, cell 0 its free
- * hours, cell 1 its booked hours. Prints a line for each call, as drive does, and at the end the
- * text of a booking. */
+/* Two bookings on one site, from the wire to their commits, and a report between them: class 3 is a
+ * bay, cell 0 its free hours, cell 1 its booked hours. Prints a line for each call, as drive does,
+ * and at the end the text of a booking. */
 #include "shpendorak.h"
 
 #include <inttypes.h>
@@ -13,6 +13,7 @@ struct host {
     shpendorak_site site;
     uint32_t committed[SHPENDORAK_RUN_LENGTH];
     uint32_t working[SHPENDORAK_RUN_LENGTH];
+    uint32_t entry[SHPENDORAK_CELLS];
     uint64_t answer[SHPENDORAK_NUMBERS];
     unsigned place;
 };
@@ -27,7 +28,8 @@ static const struct {
     [SHPENDORAK_COMMITTED] = {"committed", 5},     [SHPENDORAK_WAITING] = {"waiting", 3},
     [SHPENDORAK_VALUE] = {"value", 1},             [SHPENDORAK_TO_DO] = {"to-do", 2},
     [SHPENDORAK_UNCONFIRMED] = {"unconfirmed", 1}, [SHPENDORAK_STARTED] = {"started", 0},
-    [SHPENDORAK_WRITTEN] = {"written", 1},
+    [SHPENDORAK_WRITTEN] = {"written", 1},         [SHPENDORAK_BEGUN] = {"begun", 1},
+    [SHPENDORAK_ENTRY] = {"entry", 2},
 };
 
 /* Prints the last answer: its place, a word, numbers. */
@@ -85,11 +87,22 @@ static void confirm(struct host *host, uint64_t id, uint64_t number)
     tell(host);
 }
 
-/* Works once for the bay. */
+/* Works once for the bay; tells the hours of a report's entry that was read. */
 static void work(struct host *host)
 {
     host->site = shpendorak_work(host->site, host->committed, SHPENDORAK_RUN_LENGTH, host->working,
-                                 SHPENDORAK_RUN_LENGTH, BAY, host->answer);
+                                 SHPENDORAK_RUN_LENGTH, BAY, host->entry, host->answer);
+    tell(host);
+    if (host->answer[0] == SHPENDORAK_ENTRY)
+        printf("report: %" PRIu32 " free, %" PRIu32 " booked\n", host->entry[FREE_HOURS],
+               host->entry[BOOKED_HOURS]);
+}
+
+/* Begins a report over the bay. */
+static void report(struct host *host)
+{
+    host->site = shpendorak_query(host->site, host->committed, SHPENDORAK_RUN_LENGTH, host->working,
+                                  SHPENDORAK_RUN_LENGTH, 1 << BAY, host->answer);
     tell(host);
 }
 
@@ -139,8 +152,10 @@ int main(void)
     look(&host, 7);
     look(&host, 9);        /* and says so: put back once */
     work(&host);           /* the stock commits */
+    report(&host);         /* a report: after number 1, before what is confirmed from now on */
     confirm(&host, 9, 3);  /* 2 is next: refused 7 */
-    confirm(&host, 9, 2);
+    confirm(&host, 9, 2);  /* W is 3: the report's entry stands before the film */
+    work(&host);           /* the report reads its entry */
     work(&host);
     work(&host);           /* the film commits */
     read_cell(&host, FREE_HOURS);

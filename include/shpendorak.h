@@ -32,7 +32,9 @@ extern "C" {
 #define SHPENDORAK_CELLS 64         /* cells of a class are 0 to 63 */
 #define SHPENDORAK_RUN_LENGTH 1024  /* cells in a run: 16 times 64 */
 #define SHPENDORAK_SLOTS 128        /* slots are 0 to 127, shared by all classes */
-#define SHPENDORAK_PLACES 2048      /* queue places: 16 times 128 */
+#define SHPENDORAK_QUERIES 8        /* so many queries may be open, at places 1 to 8 */
+#define SHPENDORAK_CLASS_PLACES 136 /* queue places of a class: 128 requests, 8 entries */
+#define SHPENDORAK_PLACES 2176      /* queue places: 16 times 136 */
 #define SHPENDORAK_KEPT 256         /* ids of so many of the last confirmations are kept */
 #define SHPENDORAK_MOST_OPS 7       /* a request has 1 to 7 operations */
 #define SHPENDORAK_RECORD_BYTES 64  /* bytes of a request record */
@@ -63,7 +65,9 @@ enum shpendorak_answer {
     SHPENDORAK_TO_DO = 7,       /* W, times put back */
     SHPENDORAK_UNCONFIRMED = 8, /* times put back */
     SHPENDORAK_STARTED = 9,     /* no numbers */
-    SHPENDORAK_WRITTEN = 10     /* the length of the text or record written */
+    SHPENDORAK_WRITTEN = 10,    /* the length of the text or record written */
+    SHPENDORAK_BEGUN = 11,      /* the query's place, 1 to 8 */
+    SHPENDORAK_ENTRY = 12       /* the query's place, the class; the cells stand in `entry` */
 };
 
 /* Why a call did not act. Where several apply, the smallest is given; but 14 comes between 4 and 5. */
@@ -82,7 +86,10 @@ enum shpendorak_refusal {
     SHPENDORAK_NO_SUCH_CELL = 12,     /* the cell is above 63: read */
     SHPENDORAK_ID_KEPT = 14,          /* the id is among the last 256 confirmed: offer */
     SHPENDORAK_BAD_TEXT = 15,         /* the text is no record's: read_text */
-    SHPENDORAK_SHORT_BUFFER = 16      /* the buffer is shorter than the result: both of texts */
+    SHPENDORAK_SHORT_BUFFER = 16,     /* the buffer is shorter than the result: both of texts */
+    SHPENDORAK_EMPTY_MASK = 17,       /* the mask names no class: query */
+    SHPENDORAK_QUERIES_OPEN = 18,     /* 8 queries are open: query */
+    SHPENDORAK_QUERIES_USED_UP = 24   /* 4,294,967,295 queries were begun: query */
 };
 
 /* One operation of a request. */
@@ -105,16 +112,25 @@ typedef struct shpendorak_slot {
     uint64_t backs;                         /* how often it was put back since its offer */
 } shpendorak_slot;
 
-/* A site. Place p of class c, from 0, stands at 128c + p of the queue. */
+/* A query: the classes that it has still to read, and when it began. A free one is all zero. */
+typedef struct shpendorak_open_query {
+    uint16_t classes; /* bit c is class c */
+    uint32_t begun;   /* the count of confirmations when it began */
+} shpendorak_open_query;
+
+/* A site. Place p of class c, from 0, stands at 136c + p of the queue: a slot's number, or for an
+ * entry of a query 128 plus the query's place less 1. */
 typedef struct shpendorak_site {
     shpendorak_slot slots[SHPENDORAK_SLOTS];
-    uint8_t queue[SHPENDORAK_PLACES];  /* slot numbers; places past a queue's end are zero */
+    uint8_t queue[SHPENDORAK_PLACES];  /* places past a queue's end are zero */
     uint8_t lens[SHPENDORAK_CLASSES];  /* how long each queue is */
     uint64_t low;                      /* the map of used slots: bit i is slot i */
     uint64_t high;                     /* and of slots 64 to 127 */
     uint32_t confirmations;            /* how many confirmations were taken */
     uint32_t commits;                  /* how many requests committed */
     uint32_t kept[SHPENDORAK_KEPT];    /* ids last confirmed: that of number n at n mod 256 */
+    shpendorak_open_query queries[SHPENDORAK_QUERIES]; /* by their place less 1 */
+    uint32_t begun;                    /* how many queries were begun */
 } shpendorak_site;
 
 /* Fresh: clears all 2,048 cells and hands back a site with nothing queued and both counts 0.
@@ -148,14 +164,30 @@ shpendorak_site shpendorak_confirm(shpendorak_site site,
 
 /* Work: the head of a class does its next operation on the working cells. If that was its last, a
  * confirmed head commits: its class's working cells become the committed ones and its slot is free.
- * Answers STEPPED id, done; EXECUTED id, if it was the last of a waiting head; or COMMITTED id,
- * number, mark, slot, times put back.
+ * Where the head is an entry of a query, it is read and taken away, and `entry` gets the 64 committed
+ * cells of the class; in every other case `entry` stays as it was.
+ * Answers STEPPED id, done; EXECUTED id, if it was the last of a waiting head; COMMITTED id,
+ * number, mark, slot, times put back; or ENTRY place, class.
  * Refuses WRONG_CELLS, UNSOUND, NO_SUCH_CLASS, NOTHING_TO_DO. */
 shpendorak_site shpendorak_work(shpendorak_site site,
                                 uint32_t *committed, size_t committed_len,
                                 uint32_t *working, size_t working_len,
                                 uint64_t class_number,
+                                uint32_t entry[SHPENDORAK_CELLS],
                                 uint64_t answer[SHPENDORAK_NUMBERS]);
+
+/* Query, for a report over several classes at one point of the definitive order: in the queue of each
+ * class whose bit is set in the mask (bit c is class c) an entry goes after the confirmed and before
+ * the waiting requests, and a waiting head is put back. Work calls read the entries; all of them
+ * together show the cells after the definitive numbers taken before the query began. An entry counts
+ * 1 in the W of every request behind it. The query is open until its last entry is read.
+ * Answers BEGUN place: the lowest free one, 1 to 8.
+ * Refuses WRONG_CELLS, UNSOUND, EMPTY_MASK, QUERIES_OPEN, QUERIES_USED_UP. */
+shpendorak_site shpendorak_query(shpendorak_site site,
+                                 const uint32_t *committed, size_t committed_len,
+                                 uint32_t *working, size_t working_len,
+                                 uint16_t mask,
+                                 uint64_t answer[SHPENDORAK_NUMBERS]);
 
 /* Read: a committed cell. The site comes back as it was.
  * Answers VALUE.

@@ -1,11 +1,14 @@
 //! What a call answers, and why it refuses.
 
-use crate::raw::{self, NUMBERS, Numbers};
+use crate::raw::{self, CELLS, NUMBERS, Numbers};
 use std::error::Error;
 use std::fmt;
 
 /// An answer not given yet: no call writes such numbers, so that one left out is noticed.
 pub const NO_ANSWER: Numbers = [u64::MAX; NUMBERS];
+
+/// The cells of an entry where none is read.
+pub const NO_CELLS: [u32; CELLS] = [0; CELLS];
 
 /// What a call answers when it acts.
 #[derive(Clone, Copy, Debug, PartialEq, Eq)]
@@ -32,6 +35,11 @@ pub enum Answer {
     Unconfirmed { backs: u64 },
     /// The site is fresh.
     Started,
+    /// The query was begun, at a place from 1 to 8.
+    Begun { place: u32 },
+    /// An entry of the query at a place was read: the committed cells of a class after the
+    /// definitive numbers taken before the query began.
+    Entry { place: u32, class: u32, cells: [u32; CELLS] },
 }
 
 /// Why a call did not act: the table of document 01, under its numbers.
@@ -52,10 +60,13 @@ pub enum Refusal {
     NothingToDo = 11,
     NoSuchCell = 12,
     IdKept = 14,
+    EmptyMask = 17,
+    QueriesOpen = 18,
+    QueriesUsedUp = 24,
 }
 
 /// Every refusal and what it means.
-const MEANINGS: [(Refusal, &str); 13] = [
+const MEANINGS: [(Refusal, &str); 16] = [
     (Refusal::WrongCells, "a run of cells is not 1,024 long"),
     (Refusal::Unsound, "the site is not sound"),
     (Refusal::BadRecord, "the record is not 64 bytes or breaks a rule"),
@@ -69,6 +80,9 @@ const MEANINGS: [(Refusal, &str); 13] = [
     (Refusal::NothingToDo, "the queue is empty, or its head is executed"),
     (Refusal::NoSuchCell, "the cell is above 63"),
     (Refusal::IdKept, "the id is among the last 256 confirmed"),
+    (Refusal::EmptyMask, "the mask names no class"),
+    (Refusal::QueriesOpen, "8 queries are open"),
+    (Refusal::QueriesUsedUp, "4,294,967,295 queries were begun"),
 ];
 
 impl Refusal {
@@ -99,8 +113,9 @@ impl fmt::Display for Refusal {
 
 impl Error for Refusal {}
 
-/// The answer or the refusal that six numbers say; panics at numbers that no answer has.
-pub fn answered(numbers: &Numbers) -> Result<Answer, Refusal> {
+/// The answer or the refusal that six numbers say, with the cells of an entry that was read; panics
+/// at numbers that no answer has.
+pub fn answered(numbers: &Numbers, cells: &[u32; CELLS]) -> Result<Answer, Refusal> {
     Ok(match *numbers {
         [raw::QUEUED, id, class, place, slot, 0] => Answer::Queued {
             id: word(id),
@@ -124,6 +139,10 @@ pub fn answered(numbers: &Numbers) -> Result<Answer, Refusal> {
         [raw::TO_DO, w, backs, 0, 0, 0] => Answer::ToDo { w: word(w), backs },
         [raw::UNCONFIRMED, backs, 0, 0, 0, 0] => Answer::Unconfirmed { backs },
         [raw::STARTED, 0, 0, 0, 0, 0] => Answer::Started,
+        [raw::BEGUN, place, 0, 0, 0, 0] => Answer::Begun { place: word(place) },
+        [raw::ENTRY, place, class, 0, 0, 0] => {
+            Answer::Entry { place: word(place), class: word(class), cells: *cells }
+        }
         [raw::REFUSED, number, 0, 0, 0, 0] => return Err(refusal(number)),
         _ => panic!("{numbers:?} is no answer of a site"),
     })

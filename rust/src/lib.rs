@@ -30,5 +30,5 @@ mod site;
 mod text;
 
 pub use answer::{Answer, Refusal, answered};
-pub use raw::{LONGEST_TEXT, Op, RECORD_BYTES, RUN_LENGTH, Site, Slot};
+pub use raw::{CELLS, LONGEST_TEXT, Op, Query, RECORD_BYTES, RUN_LENGTH, Site, Slot};
 pub use text::{TextRefusal, read_text, write_text};

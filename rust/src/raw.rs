@@ -8,8 +8,12 @@ pub const CELLS: usize = 64;
 pub const RUN_LENGTH: usize = CLASSES * CELLS;
 /// Slots are 0 to 127.
 pub const SLOTS: usize = 128;
-/// The queue places of all classes; each class has as many as there are slots.
-pub const PLACES: usize = CLASSES * SLOTS;
+/// So many queries may be open, at places 1 to 8.
+pub const QUERIES: usize = 8;
+/// The queue places of a class: one for each slot and for an entry of each query.
+pub const CLASS_PLACES: usize = SLOTS + QUERIES;
+/// The queue places of all classes.
+pub const PLACES: usize = CLASSES * CLASS_PLACES;
 /// A site keeps the ids of as many of its last confirmations.
 pub const KEPT: usize = 256;
 /// The most operations a request may have.
@@ -53,6 +57,10 @@ pub const UNCONFIRMED: u64 = 8;
 pub const STARTED: u64 = 9;
 /// A text or a record written into the lent buffer: its length.
 pub const WRITTEN: u64 = 10;
+/// A query begun: its place, from 1.
+pub const BEGUN: u64 = 11;
+/// An entry of a query read: the query's place, the class; the cells stand in the lent array.
+pub const ENTRY: u64 = 12;
 
 /// An answer as its six numbers.
 pub type Numbers = [u64; NUMBERS];
@@ -93,13 +101,24 @@ pub struct Slot {
     pub backs: u64,
 }
 
+/// A query: the classes that it has still to read, and when it began; a free one is all zero.
+#[repr(C)]
+#[derive(Clone, Copy, Debug, Default, PartialEq, Eq)]
+pub struct Query {
+    /// Bit c is class c.
+    pub classes: u16,
+    /// The count of confirmations when it began.
+    pub begun: u32,
+}
+
 /// A site: plain data that may be stored and brought back; every call looks whether it is sound.
 #[repr(C)]
 #[derive(Clone, Copy, Debug, PartialEq, Eq)]
 pub struct Site {
     /// The slots.
     pub slots: [Slot; SLOTS],
-    /// The slot numbers in the queues: place p of class c, from 0, stands at 128c + p.
+    /// The queues: place p of class c, from 0, stands at 136c + p. A place holds a slot's number, or
+    /// for an entry of a query 128 plus the query's place less 1.
     pub queue: [u8; PLACES],
     /// How long each queue is.
     pub lens: [u8; CLASSES],
@@ -113,6 +132,10 @@ pub struct Site {
     pub commits: u32,
     /// The ids of the last 256 confirmations: that of number n stands at n mod 256.
     pub kept: [u32; KEPT],
+    /// The queries, by their place less 1.
+    pub queries: [Query; QUERIES],
+    /// The count of queries begun.
+    pub begun: u32,
 }
 
 #[link(name = "host", kind = "static")]
@@ -150,7 +173,7 @@ unsafe extern "C" {
         answer: *mut Numbers,
     ) -> Site;
 
-    /// The head of a class does its next operation.
+    /// The head of a class does its next operation, or the entry of a query there is read.
     pub fn shpendorak_work(
         site: Site,
         committed: *mut u32,
@@ -158,6 +181,18 @@ unsafe extern "C" {
         working: *mut u32,
         working_len: usize,
         class: u64,
+        entry: *mut [u32; CELLS],
+        answer: *mut Numbers,
+    ) -> Site;
+
+    /// Begins a query over the classes of a mask.
+    pub fn shpendorak_query(
+        site: Site,
+        committed: *const u32,
+        committed_len: usize,
+        working: *mut u32,
+        working_len: usize,
+        mask: u16,
         answer: *mut Numbers,
     ) -> Site;
 

@@ -1,6 +1,6 @@
 //! The calls of a site over slices.
 
-use crate::answer::{Answer, NO_ANSWER, Refusal, answered};
+use crate::answer::{Answer, NO_ANSWER, NO_CELLS, Refusal, answered};
 use crate::raw::{self, Site};
 
 impl Site {
@@ -17,7 +17,7 @@ impl Site {
                 &mut answer,
             )
         };
-        answered(&answer).map(|_| site)
+        answered(&answer, &NO_CELLS).map(|_| site)
     }
 
     /// Queues the request of a record, at the end of its class queue and in the lowest free slot.
@@ -41,7 +41,7 @@ impl Site {
                 &mut answer,
             )
         };
-        answered(&answer)
+        answered(&answer, &NO_CELLS)
     }
 
     /// Confirms a queued id under its definitive number, the count of confirmations plus 1.
@@ -66,18 +66,18 @@ impl Site {
                 &mut answer,
             )
         };
-        answered(&answer)
+        answered(&answer, &NO_CELLS)
     }
 
-    /// The head of a class does its next operation.
+    /// The head of a class does its next operation, or the entry of a query there is read.
     pub fn work(
         &mut self,
         committed: &mut [u32],
         working: &mut [u32],
         class: u64,
     ) -> Result<Answer, Refusal> {
-        let mut answer = NO_ANSWER;
-        // SAFETY: every pointer is that of a slice with its length, or of the answer.
+        let (mut answer, mut cells) = (NO_ANSWER, NO_CELLS);
+        // SAFETY: every pointer is that of a slice with its length, of the cells or of the answer.
         *self = unsafe {
             raw::shpendorak_work(
                 *self,
@@ -86,10 +86,35 @@ impl Site {
                 working.as_mut_ptr(),
                 working.len(),
                 class,
+                &mut cells,
                 &mut answer,
             )
         };
-        answered(&answer)
+        answered(&answer, &cells)
+    }
+
+    /// Begins a query over the classes whose bits are set in a mask: an entry of it goes into each
+    /// of their queues, after the confirmed and before the waiting.
+    pub fn query(
+        &mut self,
+        committed: &[u32],
+        working: &mut [u32],
+        mask: u16,
+    ) -> Result<Answer, Refusal> {
+        let mut answer = NO_ANSWER;
+        // SAFETY: every pointer is that of a slice with its length, or of the answer.
+        *self = unsafe {
+            raw::shpendorak_query(
+                *self,
+                committed.as_ptr(),
+                committed.len(),
+                working.as_mut_ptr(),
+                working.len(),
+                mask,
+                &mut answer,
+            )
+        };
+        answered(&answer, &NO_CELLS)
     }
 
     /// The committed cell of a class.
@@ -114,7 +139,7 @@ impl Site {
                 &mut answer,
             )
         };
-        answered(&answer)
+        answered(&answer, &NO_CELLS)
     }
 
     /// How many work calls a confirmed request still needs, or that it is unconfirmed, and how often
@@ -133,6 +158,6 @@ impl Site {
                 &mut answer,
             )
         };
-        answered(&answer)
+        answered(&answer, &NO_CELLS)
     }
 }

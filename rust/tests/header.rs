@@ -32,6 +32,8 @@ fn sizes_codes_and_kinds_of_answers_are_those_of_the_header() {
         ("CELLS", size(CELLS)),
         ("RUN_LENGTH", size(RUN_LENGTH)),
         ("SLOTS", size(SLOTS)),
+        ("QUERIES", size(QUERIES)),
+        ("CLASS_PLACES", size(CLASS_PLACES)),
         ("PLACES", size(PLACES)),
         ("KEPT", size(KEPT)),
         ("MOST_OPS", size(MOST_OPS)),
@@ -53,6 +55,8 @@ fn sizes_codes_and_kinds_of_answers_are_those_of_the_header() {
         ("UNCONFIRMED", UNCONFIRMED),
         ("STARTED", STARTED),
         ("WRITTEN", WRITTEN),
+        ("BEGUN", BEGUN),
+        ("ENTRY", ENTRY),
     ];
     let mut header = header();
     for (name, number) in ours {
@@ -63,6 +67,7 @@ fn sizes_codes_and_kinds_of_answers_are_those_of_the_header() {
         "BAD_RECORD",
         "BAD_TEXT",
         "CONFIRMED_ALREADY",
+        "EMPTY_MASK",
         "ID_KEPT",
         "ID_NOT_QUEUED",
         "ID_QUEUED",
@@ -70,6 +75,8 @@ fn sizes_codes_and_kinds_of_answers_are_those_of_the_header() {
         "NO_SUCH_CELL",
         "NO_SUCH_CLASS",
         "NUMBERS_USED_UP",
+        "QUERIES_OPEN",
+        "QUERIES_USED_UP",
         "SHORT_BUFFER",
         "SITE_FULL",
         "UNSOUND",

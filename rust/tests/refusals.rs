@@ -1,7 +1,7 @@
 //! The refusals by the wrapper, under their numbers and in words; a refusal changes nothing.
 
 use shpendorak::raw::{NUMBERS, shpendorak_fresh};
-use shpendorak::{Answer, RUN_LENGTH, Refusal, Site, answered};
+use shpendorak::{Answer, CELLS, RUN_LENGTH, Refusal, Site, answered};
 
 /// A site with its cells.
 struct Hosted {
@@ -39,6 +39,11 @@ impl Hosted {
         self.site.work(&mut self.committed, &mut self.working, class)
     }
 
+    /// Begins a query.
+    fn query(&mut self, mask: u16) -> Given {
+        self.site.query(&self.committed, &mut self.working, mask)
+    }
+
     /// Reads a cell.
     fn read(&self, class: u64, cell: u64) -> Given {
         self.site.read(&self.committed, &self.working, class, cell)
@@ -52,8 +57,10 @@ impl Hosted {
 
 #[test]
 fn numbers_and_words_are_those_of_document_01() {
-    let shown: Vec<String> =
-        (0..=14).filter_map(Refusal::numbered).map(|refusal| refusal.to_string()).collect();
+    let shown: Vec<String> = (0..=u8::MAX.into())
+        .filter_map(Refusal::numbered)
+        .map(|refusal| refusal.to_string())
+        .collect();
     assert_eq!(
         shown,
         [
@@ -70,6 +77,9 @@ fn numbers_and_words_are_those_of_document_01() {
             "refused 11: the queue is empty, or its head is executed",
             "refused 12: the cell is above 63",
             "refused 14: the id is among the last 256 confirmed",
+            "refused 17: the mask names no class",
+            "refused 18: 8 queries are open",
+            "refused 24: 4,294,967,295 queries were begun",
         ]
     );
 }
@@ -135,7 +145,7 @@ fn a_refused_start_hands_back_an_empty_site() {
     // SAFETY: both runs are lent with their lengths, the answer has six numbers.
     let site = unsafe { shpendorak_fresh(c, committed.len(), w, working.len(), &mut answer) };
     assert_eq!(site, empty);
-    assert_eq!(answered(&answer), Err(Refusal::WrongCells));
+    assert_eq!(answered(&answer, &[0; CELLS]), Err(Refusal::WrongCells));
     assert_eq!(working.last(), Some(&1));
 }
 
@@ -176,4 +186,29 @@ fn times_put_back_may_reach_the_confirmations_and_no_more() {
         assert_eq!(looked(confirmations, backs + 1), Err(Refusal::Unsound));
         assert_eq!(looked(confirmations, 1 << 32), Err(Refusal::Unsound));
     }
+}
+
+#[test]
+fn a_query_shows_its_classes_at_one_point_and_counts_in_w() {
+    let mut hosted = Hosted::fresh();
+    assert_eq!(hosted.query(0), Err(Refusal::EmptyMask));
+    hosted.offer(7, 3).expect("a slot is free");
+    assert_eq!(hosted.work(3), Ok(Answer::Executed { id: 7 }));
+    assert_eq!(hosted.query(1 << 3 | 1 << 15), Ok(Answer::Begun { place: 1 }));
+    assert_eq!(hosted.look(7), Ok(Answer::Unconfirmed { backs: 1 }));
+    assert_eq!(hosted.confirm(7, 1), Ok(Answer::Waiting { id: 7, w: 2, put_back: 0 }));
+    let cells = [0; CELLS];
+    assert_eq!(hosted.work(3), Ok(Answer::Entry { place: 1, class: 3, cells }));
+    let committed = Answer::Committed { id: 7, number: 1, mark: 0, slot: 0, backs: 1 };
+    assert_eq!(hosted.work(3), Ok(committed));
+    for place in 2..=8 {
+        assert_eq!(hosted.query(1 << 3), Ok(Answer::Begun { place }));
+    }
+    assert_eq!(hosted.query(1), Err(Refusal::QueriesOpen));
+    assert_eq!(hosted.work(15), Ok(Answer::Entry { place: 1, class: 15, cells }));
+    let mut later = cells;
+    later[0] = 1;
+    assert_eq!(hosted.work(3), Ok(Answer::Entry { place: 2, class: 3, cells: later }));
+    hosted.site.begun = u32::MAX;
+    assert_eq!(hosted.query(1), Err(Refusal::QueriesUsedUp));
 }

@@ -8,6 +8,7 @@
 /* What is lent, with a number more behind each, and the site to go on with. */
 static uint32_t committed[SHPENDORAK_RUN_LENGTH + 1], working[SHPENDORAK_RUN_LENGTH + 1];
 static size_t run = SHPENDORAK_RUN_LENGTH;
+static uint32_t entry[SHPENDORAK_CELLS + 1];
 static uint64_t answer[SHPENDORAK_NUMBERS + 1];
 static uint8_t record[SHPENDORAK_RECORD_BYTES + 1];
 static shpendorak_site site;
@@ -49,7 +50,13 @@ static void confirm(uint64_t id, uint64_t number)
 static void work(uint64_t class_number)
 {
     asked();
-    site = shpendorak_work(site, committed, run, working, run, class_number, answer);
+    site = shpendorak_work(site, committed, run, working, run, class_number, entry, answer);
+}
+
+static void query(uint16_t mask)
+{
+    asked();
+    site = shpendorak_query(site, committed, run, working, run, mask, answer);
 }
 
 static void read_cell(uint64_t class_number, uint64_t cell)
@@ -110,6 +117,29 @@ static void answers(void)
     HOLDS(answer[0] == SHPENDORAK_EXECUTED);
     read_cell(3, 0);
     HOLDS(answer[0] == SHPENDORAK_VALUE && answer[1] == 100);
+}
+
+static void queries(void)
+{
+    fresh();
+    book(7, 1, put_100);
+    query(0);
+    REFUSES(SHPENDORAK_EMPTY_MASK);
+    for (uint64_t place = 1; place <= SHPENDORAK_QUERIES; place++) {
+        query(1 << 3);
+        HOLDS(answer[0] == SHPENDORAK_BEGUN && answer[1] == place);
+    }
+    query(1);
+    REFUSES(SHPENDORAK_QUERIES_OPEN);
+    HOLDS(site.queue[3 * SHPENDORAK_CLASS_PLACES] == SHPENDORAK_SLOTS);
+    entry[SHPENDORAK_CELLS] = 7;
+    entry[SHPENDORAK_CELLS - 1] = 7;
+    work(3);
+    HOLDS(answer[0] == SHPENDORAK_ENTRY && answer[1] == 1 && answer[2] == 3);
+    HOLDS(entry[0] == 100 && entry[SHPENDORAK_CELLS - 1] == 0 && entry[SHPENDORAK_CELLS] == 7);
+    site.begun = UINT32_MAX;
+    query(1);
+    REFUSES(SHPENDORAK_QUERIES_USED_UP);
 }
 
 static void codes(void)
@@ -227,6 +257,7 @@ static void sizes(void)
 int main(void)
 {
     answers();
+    queries();
     codes();
     refusals();
     texts();

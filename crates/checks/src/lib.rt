@@ -3,31 +3,39 @@
 ghost use mathlib.Core.Path.{_≡_};
 ghost use Prim.Native.Nat.{_+_, _≤_};
 ghost use lib.ListN.{length};
-ghost use Rattle.plain.specs.Sizes.{slotCount};
+ghost use Rattle.plain.specs.Sizes.{slotCount, queryCount};
 ghost use Rattle.plain.specs.Decides.{Decides};
 ghost use Rattle.store.specs.Store.{runSize, placeCount};
 ghost use Rattle.store.specs.Sound.{Short};
-ghost use Rattle.store.specs.Checks.{nth, SlotsIn, Owned, Staged, Long, Classed, MapOf, OnceIn, Unnumbered, Differ, ZeroFrom, Tails};
-ghost use Rattle.store.specs.Checks.{QueueOk, PlacesOk, Named, InRange, numbered, LaidOut, Heads, HeadsHold, HeadCells};
+ghost use Rattle.store.specs.Checks.{nth, SlotsIn, Owned, Staged, Lined, Classed, MapOf, Unnumbered, Differ, ZeroFrom, Tails, FreeIn};
+ghost use Rattle.store.specs.Checks.{stand, Next, QueueOk, PlacesOk, Named, InRange, numbered, LaidOut, Heads, HeadsHold, HeadCells};
+
+mod once; // once.rt: what stands in the queues
+
 use cells::CELLS;
 use cells::CLASSES;
 use cells::same_cells;
+use once::each_once;
+use queries::Query;
 use slots::Slot;
-use slots::follows;
 use slots::slot_ok;
 use slots::steps::head_ok;
 use usedmap::UsedMap;
 
-// Slots are 0 to 127. A queue has at most all of them, so each class has 128 queue places.
+// Slots are 0 to 127, and up to 8 queries are open. A queue has at most all of them, so each class has 136 queue places.
 pub const SLOTS: usize = 128;
 
-pub const PLACES: usize = CLASSES * SLOTS;
+pub const QUERIES: usize = 8;
+
+pub const CLASS_PLACES: usize = SLOTS + QUERIES;
+
+pub const PLACES: usize = CLASSES * CLASS_PLACES;
 
 // The length of the longest queue.
-const LONGEST: u8 = 128;
+const LONGEST: u8 = 136;
 
-// What stands at a queue place is a slot if it is below this.
-const SLOT_LIMIT: u8 = 128;
+// What stands at a queue place is a slot if it is below this, and else the query whose index is as much above it.
+pub const SLOT_LIMIT: u8 = 128;
 
 // The slots' ids and classes; where a slot is neither free nor valid, or was put back too often, not ok.
 pub struct Owners {
@@ -37,7 +45,7 @@ pub struct Owners {
 }
 
 // "Each slot is free and all zero, or holds a valid record", and no count of times put back is above `top`: whether, with their ids and classes.
-pub fn gather_owners(slots: [Slot; SLOTS], top: u32) -> Owners
+pub fn gather_owners(slots: [Slot; SLOTS], top: u64) -> Owners
     ensures { λ r. ⌜ Decides (r .ok) (SlotsIn slots top) ⌝ }
     ensures { λ r. ⌜ Owned slots (r .ids) (r .classes) ⌝ }
 {
@@ -49,7 +57,7 @@ pub fn gather_owners(slots: [Slot; SLOTS], top: u32) -> Owners
     let mut i = 0;
     while i < SLOTS {
         let v = slots[i];
-        o.ok = o.ok & (slot_ok(v) & (v.backs <= top as u64));
+        o.ok = o.ok & (slot_ok(v) & (v.backs <= top));
         o.ids[i] = slots[i].id;
         o.classes[i] = slots[i].class;
         i += 1;
@@ -57,33 +65,51 @@ pub fn gather_owners(slots: [Slot; SLOTS], top: u32) -> Owners
     o
 }
 
-// How far the slots' requests have come: their numbers, done operations and marks.
-pub struct Stages {
-    pub numbers: [u32; SLOTS],
-    pub dones: [u8; SLOTS],
-    pub marks: [u8; SLOTS],
+// The numbers of the slots.
+pub fn gather_numbers(slots: [Slot; SLOTS]) -> [u32; SLOTS]
+    ensures { λ r. ⌜ Staged slots r ⌝ }
+{
+    let mut numbers = [0; SLOTS];
+    let mut slot = 0;
+    while slot < SLOTS {
+        numbers[slot] = slots[slot].number;
+        slot += 1;
+    }
+    numbers
 }
 
-// The stages of the slots.
-pub fn gather_stages(slots: [Slot; SLOTS]) -> Stages
-    ensures { λ r. ⌜ Staged slots (r .numbers) (r .dones) (r .marks) ⌝ }
+// Of what queue places name the lines, done operations and marks.
+pub struct Stages {
+    pub lines: [u32; CLASS_PLACES],
+    pub dones: [u8; CLASS_PLACES],
+    pub marks: [u8; CLASS_PLACES],
+}
+
+// The stages of the slots and queries. The line of a slot is its number, that of an entry the count at its query's beginning.
+pub fn gather_stages(slots: [Slot; SLOTS], table: [Query; QUERIES]) -> Stages
+    ensures { λ r. ⌜ Lined slots table (r .lines) (r .dones) (r .marks) ⌝ }
 {
     let mut g = Stages {
-        numbers: [0; SLOTS],
-        dones: [0; SLOTS],
-        marks: [0; SLOTS],
+        lines: [0; CLASS_PLACES],
+        dones: [0; CLASS_PLACES],
+        marks: [0; CLASS_PLACES],
     };
     let mut at = 0;
     while at < SLOTS {
-        g.numbers[at] = slots[at].number;
+        g.lines[at] = slots[at].number;
         g.dones[at] = slots[at].done;
         g.marks[at] = slots[at].mark;
         at += 1;
     }
+    let mut p = 0;
+    while p < QUERIES {
+        g.lines[SLOTS + p] = table[p].begun;
+        p += 1;
+    }
     g
 }
 
-// "No queue is longer than 128."
+// "No queue is longer than 136."
 fn lens_short(lens: &[u8; CLASSES]) -> bool
     ensures { λ r. ⌜ Decides r (Short (now (lens .entry))) ⌝ }
 {
@@ -118,8 +144,8 @@ fn tails_zero<'a>(queue: &'a [u8; PLACES], lens: &'a [u8; CLASSES]) -> bool
 {
     let mut c = 0;
     while c < CLASSES {
-        let a = SLOTS * c;
-        if !zero_from(queue, a + lens[c] as usize, a + SLOTS) {
+        let a = CLASS_PLACES * c;
+        if !zero_from(queue, a + lens[c] as usize, a + CLASS_PLACES) {
             return false;
         }
         c += 1;
@@ -143,51 +169,10 @@ fn map_agrees(ids: &[u32; SLOTS], low: u64, high: u64) -> bool
     true
 }
 
-// "Every used slot stands exactly once, in the queue of its class, and no free slot stands in one."
-fn each_once<'a>(
-    ids: &'a [u32; SLOTS],
-    classes: &'a [u8; SLOTS],
-    queue: &'a [u8; PLACES],
-    lens: &'a [u8; CLASSES],
-    low: u64,
-    high: u64,
-) -> bool
-    requires { ⌜ Long (now ids) (now classes) (now queue) (now lens) ⌝ }
-    requires { ⌜ Short (now lens) × Classed (nth (now ids)) (nth (now classes)) × MapOf low high (nth (now ids)) ⌝ }
-    ensures { λ r. ⌜ Decides r (OnceIn (nth (now (ids .entry))) (nth (now (classes .entry))) (now (queue .entry)) (now (lens .entry))) ⌝ }
-{
-    let mut m = UsedMap { lo: 0, hi: 0 };
-    let mut c = 0;
-    while c < CLASSES {
-        let len = lens[c] as usize;
-        let mut p = 0;
-        while p < len {
-            let place = queue[SLOTS * c + p];
-            if SLOT_LIMIT <= place {
-                return false;
-            }
-            let i = place as usize;
-            if ids[i] == 0 {
-                return false;
-            }
-            if classes[i] as usize != c {
-                return false;
-            }
-            if m.is_used(i as u32) {
-                return false;
-            }
-            m = m.with_used(i as u32);
-            p += 1;
-        }
-        c += 1;
-    }
-    m.lo == low && m.hi == high
-}
-
 // "Ids differ", and "confirmed numbers differ over the whole site": over the pairs of slots, left at the first breach. A free slot is passed over.
-fn pairs_differ<'a>(ids: &'a [u32; SLOTS], numbers: &'a [u32; SLOTS]) -> bool
-    requires { ⌜ Unnumbered (nth (now ids)) (nth (now numbers)) ⌝ }
-    ensures { λ r. ⌜ Decides r (Differ (nth (now (ids .entry))) (nth (now (numbers .entry)))) ⌝ }
+fn pairs_differ<'a>(ids: &'a [u32; SLOTS], lines: &'a [u32; CLASS_PLACES]) -> bool
+    requires { ⌜ Unnumbered (nth (now ids)) (nth (now lines)) ⌝ }
+    ensures { λ r. ⌜ Decides r (Differ (nth (now (ids .entry))) (nth (now (lines .entry)))) ⌝ }
 {
     let mut i = 0;
     'pairs: loop {
@@ -195,7 +180,7 @@ fn pairs_differ<'a>(ids: &'a [u32; SLOTS], numbers: &'a [u32; SLOTS]) -> bool
             break true;
         }
         let id = ids[i];
-        let number = numbers[i];
+        let number = lines[i];
         let mut j = i + 1;
         if id == 0 {
             j = SLOTS;
@@ -204,7 +189,7 @@ fn pairs_differ<'a>(ids: &'a [u32; SLOTS], numbers: &'a [u32; SLOTS]) -> bool
             if id == ids[j] {
                 break 'pairs false;
             }
-            if number == numbers[j] {
+            if number == lines[j] {
                 if number != 0 {
                     break 'pairs false;
                 }
@@ -215,29 +200,67 @@ fn pairs_differ<'a>(ids: &'a [u32; SLOTS], numbers: &'a [u32; SLOTS]) -> bool
     }
 }
 
-// "In each queue the confirmed stand before the waiting, with rising numbers"; "only a head has anything done or is declined": of one queue.
+// Whether what stands at queue place b is confirmed: it is an entry, or the line is a number.
+fn standing(b: u8, line: u32) -> bool
+    ensures { λ r. ⌜ r ≡ stand b line ⌝ }
+{
+    if b < SLOT_LIMIT {
+        return 0 < line;
+    }
+    true
+}
+
+// Whether y, with this line, done operations and mark, may stand directly behind x with the line `before`.
+fn behind(x: u8, before: u32, y: u8, line: u32, done: u8, mark: u8) -> bool
+    ensures { λ r. ⌜ Decides r (Next x before y line done mark) ⌝ }
+{
+    if done != 0 {
+        return false;
+    }
+    if mark != 0 {
+        return false;
+    }
+    if !standing(y, line) {
+        return true;
+    }
+    if !standing(x, before) {
+        return false;
+    }
+    if before < line {
+        return true;
+    }
+    if y < SLOT_LIMIT {
+        return false;
+    }
+    before == line
+}
+
+// "In each queue the confirmed stand before the waiting, with rising numbers", among them the entries by the count at their beginning; "only a head has
+// anything done or is declined": of one queue.
 fn queue_ok<'a>(
-    numbers: &'a [u32; SLOTS],
-    dones: &'a [u8; SLOTS],
-    marks: &'a [u8; SLOTS],
+    lines: &'a [u32; CLASS_PLACES],
+    dones: &'a [u8; CLASS_PLACES],
+    marks: &'a [u8; CLASS_PLACES],
     queue: &'a [u8; PLACES],
     a: usize,
     len: usize,
     confirmations: u32,
 ) -> bool
     requires { ⌜ (a + len ≤ placeCount) × Named (now queue) a len ⌝ }
-    ensures { λ r. ⌜ Decides r (QueueOk (nth (now (numbers .entry))) (nth (now (dones .entry))) (nth (now (marks .entry))) (now (queue .entry)) confirmations a len) ⌝ }
+    ensures { λ r. ⌜ Decides r (QueueOk (nth (now (lines .entry))) (nth (now (dones .entry))) (nth (now (marks .entry))) (now (queue .entry)) confirmations a len) ⌝ }
 {
     let mut p = 0;
     while p < len {
-        let i = queue[a + p] as usize;
-        let number = numbers[i];
-        if confirmations < number {
+        let y = queue[a + p];
+        let i = y as usize;
+        let line = lines[i];
+        if confirmations < line {
             return false;
         }
         if 0 < p {
-            let j = queue[a + p - 1] as usize;
-            if !follows(numbers[j], number, dones[i], marks[i]) {
+            let x = queue[a + p - 1];
+            let j = x as usize;
+            if !behind(x, lines[j], y, line, dones[i], marks[i]) {
                 return false;
             }
         }
@@ -248,20 +271,28 @@ fn queue_ok<'a>(
 
 // The same of all queues.
 fn in_order<'a>(
-    numbers: &'a [u32; SLOTS],
-    dones: &'a [u8; SLOTS],
-    marks: &'a [u8; SLOTS],
+    lines: &'a [u32; CLASS_PLACES],
+    dones: &'a [u8; CLASS_PLACES],
+    marks: &'a [u8; CLASS_PLACES],
     queue: &'a [u8; PLACES],
     lens: &'a [u8; CLASSES],
     confirmations: u32,
 ) -> bool
     requires { ⌜ Short (now lens) × InRange (now queue) (now lens) ⌝ }
-    ensures { λ r. ⌜ Decides r (PlacesOk (nth (now (numbers .entry))) (nth (now (dones .entry))) (nth (now (marks .entry))) (now (queue .entry)) (now (lens .entry)) confirmations) ⌝ }
+    ensures { λ r. ⌜ Decides r (PlacesOk (nth (now (lines .entry))) (nth (now (dones .entry))) (nth (now (marks .entry))) (now (queue .entry)) (now (lens .entry)) confirmations) ⌝ }
 {
     let mut c = 0;
     while c < CLASSES {
         let len = lens[c] as usize;
-        if !queue_ok(numbers, dones, marks, queue, SLOTS * c, len, confirmations) {
+        if !queue_ok(
+            lines,
+            dones,
+            marks,
+            queue,
+            CLASS_PLACES * c,
+            len,
+            confirmations,
+        ) {
             return false;
         }
         c += 1;
@@ -269,14 +300,27 @@ fn in_order<'a>(
     true
 }
 
+// A place of queries that is free is all zero.
+fn free_zero(table: [Query; QUERIES]) -> bool
+    ensures { λ r. ⌜ Decides r (FreeIn table) ⌝ }
+{
+    let mut zero = true;
+    let mut p = 0;
+    while p < QUERIES {
+        zero = zero & ((table[p].classes != 0) | (table[p].begun == 0));
+        p += 1;
+    }
+    zero
+}
+
 // How many slots hold a number.
-fn numbered(numbers: &[u32; SLOTS]) -> u32
-    ensures { λ r. ⌜ r ≡ numbered (nth (now (numbers .entry))) slotCount ⌝ }
+fn numbered(lines: &[u32; CLASS_PLACES]) -> u32
+    ensures { λ r. ⌜ r ≡ numbered (nth (now (lines .entry))) slotCount ⌝ }
 {
     let mut n = 0;
     let mut s = 0;
     while s < SLOTS {
-        if numbers[s] != 0 {
+        if lines[s] != 0 {
             n += 1;
         }
         s += 1;
@@ -284,25 +328,28 @@ fn numbered(numbers: &[u32; SLOTS]) -> u32
     n
 }
 
-// Whether the gathered fields, the queue places, the classes' lengths and the map keep their rules, after `top` confirmations; and "the count of
-// confirmations equals the count of commits plus the confirmed requests queued".
+// Whether the gathered fields, the queue places, the classes' lengths, the queries and the map keep their rules, after `top` confirmations; and
+// "the count of confirmations equals the count of commits plus the confirmed requests queued".
 fn agree<'a>(
     ids: &'a [u32; SLOTS],
     classes: &'a [u8; SLOTS],
-    numbers: &'a [u32; SLOTS],
-    dones: &'a [u8; SLOTS],
-    marks: &'a [u8; SLOTS],
+    lines: &'a [u32; CLASS_PLACES],
+    dones: &'a [u8; CLASS_PLACES],
+    marks: &'a [u8; CLASS_PLACES],
     queue: &'a [u8; PLACES],
     lens: &'a [u8; CLASSES],
+    table: [Query; QUERIES],
     low: u64,
     high: u64,
     top: u32,
     commits: u32,
 ) -> bool
-    requires { ⌜ Long (now ids) (now classes) (now queue) (now lens) ⌝ }
-    requires { ⌜ Classed (nth (now ids)) (nth (now classes)) × Unnumbered (nth (now ids)) (nth (now numbers)) ⌝ }
-    ensures { λ r. ⌜ Decides r (LaidOut (nth (now (ids .entry))) (nth (now (classes .entry))) (nth (now (numbers .entry))) (nth (now (dones .entry))) (nth (now (marks .entry))) (now (queue .entry)) (now (lens .entry)) low high top commits) ⌝ }
+    requires { ⌜ (length (now queue) ≡ placeCount) × (length table ≡ queryCount) × Classed (nth (now classes)) × Unnumbered (nth (now ids)) (nth (now lines)) ⌝ }
+    ensures { λ r. ⌜ Decides r (LaidOut (nth (now (ids .entry))) (nth (now (classes .entry))) (nth (now (lines .entry))) (nth (now (lines .entry))) (nth (now (dones .entry))) (nth (now (marks .entry))) (now (queue .entry)) (now (lens .entry)) table low high top commits) ⌝ }
 {
+    if !free_zero(table) {
+        return false;
+    }
     if !lens_short(lens) {
         return false;
     }
@@ -312,16 +359,16 @@ fn agree<'a>(
     if !map_agrees(ids, low, high) {
         return false;
     }
-    if !each_once(ids, classes, queue, lens, low, high) {
+    if !each_once(classes, queue, lens, table, low, high) {
         return false;
     }
-    if !pairs_differ(ids, numbers) {
+    if !pairs_differ(ids, lines) {
         return false;
     }
-    if !in_order(numbers, dones, marks, queue, lens, top) {
+    if !in_order(lines, dones, marks, queue, lens, top) {
         return false;
     }
-    let n = numbered(numbers);
+    let n = numbered(lines);
     (commits as u64) + (n as u64) == top as u64
 }
 
@@ -331,31 +378,33 @@ pub struct Laid {
     pub heads: [u8; CLASSES],
 }
 
-// Whether these rules are kept, and the slot at the head of each class, 128 where its queue is empty.
+// Whether these rules are kept, and what stands at the head of each class, 128 where its queue is empty.
 pub fn laid_out<'a>(
     ids: &'a [u32; SLOTS],
     classes: &'a [u8; SLOTS],
-    numbers: &'a [u32; SLOTS],
-    dones: &'a [u8; SLOTS],
-    marks: &'a [u8; SLOTS],
+    lines: &'a [u32; CLASS_PLACES],
+    dones: &'a [u8; CLASS_PLACES],
+    marks: &'a [u8; CLASS_PLACES],
     queue: [u8; PLACES],
     lens: [u8; CLASSES],
+    table: [Query; QUERIES],
     low: u64,
     high: u64,
     top: u32,
     commits: u32,
 ) -> Laid
-    requires { ⌜ (length (now ids) ≡ slotCount) × (length (now classes) ≡ slotCount) × Classed (nth (now ids)) (nth (now classes)) × Unnumbered (nth (now ids)) (nth (now numbers)) ⌝ }
-    ensures { λ r. ⌜ Decides (r .ok) (LaidOut (nth (now (ids .entry))) (nth (now (classes .entry))) (nth (now (numbers .entry))) (nth (now (dones .entry))) (nth (now (marks .entry))) queue lens low high top commits) × Heads queue lens (r .heads) ⌝ }
+    requires { ⌜ Classed (nth (now classes)) × Unnumbered (nth (now ids)) (nth (now lines)) ⌝ }
+    ensures { λ r. ⌜ Decides (r .ok) (LaidOut (nth (now (ids .entry))) (nth (now (classes .entry))) (nth (now (lines .entry))) (nth (now (lines .entry))) (nth (now (dones .entry))) (nth (now (marks .entry))) queue lens table low high top commits) × Heads queue lens (r .heads) ⌝ }
 {
     let ok = agree(
         ids,
         classes,
-        numbers,
+        lines,
         dones,
         marks,
         &queue,
         &lens,
+        table,
         low,
         high,
         top,
@@ -365,14 +414,14 @@ pub fn laid_out<'a>(
     let mut c = 0;
     while c < CLASSES {
         if lens[c] != 0 {
-            hs[c] = queue[SLOTS * c];
+            hs[c] = queue[CLASS_PLACES * c];
         }
         c += 1;
     }
     Laid { ok: ok, heads: hs }
 }
 
-// "The working cells are the committed ones with the head's done operations carried out on them."
+// "The working cells are the committed ones with the head's done operations carried out on them", or equal to them where no request is the head.
 pub fn cells_ok(
     slots: [Slot; SLOTS],
     heads: [u8; CLASSES],
@@ -387,7 +436,7 @@ pub fn cells_ok(
     while c < CLASSES {
         let a = CELLS * c;
         let b = a + CELLS;
-        if heads[c] == SLOT_LIMIT {
+        if SLOT_LIMIT <= heads[c] {
             if !same_cells(&working[a..b], &committed[a..b]) {
                 return false;
             }

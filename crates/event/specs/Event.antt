@@ -9,6 +9,7 @@ use lib.ListN.{length, drop}
 use Rattle.plain.specs.Record.{byte, number}
 use Rattle.plain.specs.Steps.{Answer, refused}
 use Rattle.plain.specs.Site.{Call, offer, confirm, work, read}
+use Rattle.store.specs.Meaning.{cellsOf}
 use Rattle.store.specs.Calls.{State}
 use Rattle.promised.specs.Promised.{Promised}
 use Rattle.line.specs.Text.{lineOf}
@@ -32,6 +33,10 @@ callOfKind kind b =
 -- the call that an event's bytes ask for, or nothing
 unfoldable pub callOf : List ℕ → Option Call
 callOf b = cond (eqb (length b) eventSize) (callOfKind (byte b 0) b) none
+
+-- the cells that a work event gives where it reads the entry of a query: the committed ones of its class
+abbrev pub readBy : List ℕ → List ℕ → List ℕ
+readBy b run = cellsOf run (byte b 1)
 
 -- AN EVENT: its call is made, with all that is promised of it, or it is refused with 13 and nothing is touched
 pub record Happened (x : State) (bytes : List ℕ) (y : State) (a : Answer) : Type 0 where

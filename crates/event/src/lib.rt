@@ -2,7 +2,7 @@
 ghost use Rattle.site.specs.Held.{stateOf, answerOf};
 ghost use Prim.Native.Nat.{_≤_};
 ghost use Rattle.line.specs.Text.{written};
-ghost use Rattle.event.specs.Event.{Happened, Listed};
+ghost use Rattle.event.specs.Event.{readBy, Happened, Listed};
 use line::Line;
 use line::line_of;
 use site::Answer;
@@ -38,7 +38,7 @@ const BAD_EVENT: u8 = 13;
 
 // Makes the call that an event asks for and answers what the call does; or refuses with 13, and touches nothing.
 pub fn happen(site: Site, committed: &mut [u32], working: &mut [u32], bytes: &[u8]) -> Reply
-    ensures { λ r. ⌜ Happened (stateOf site (now (committed .entry)) (now (working .entry))) (now (bytes .entry)) (stateOf (r .site) (now (committed .exit)) (now (working .exit))) (answerOf (r .answer)) ⌝ }
+    ensures { λ r. ⌜ Happened (stateOf site (now (committed .entry)) (now (working .entry))) (now (bytes .entry)) (stateOf (r .site) (now (committed .exit)) (now (working .exit))) (answerOf (r .answer) (readBy (now (bytes .entry)) (now (committed .exit)))) ⌝ }
 {
     if bytes.len() != EVENT {
         return Reply {

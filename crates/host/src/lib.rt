@@ -1,9 +1,13 @@
 // The calls for hosts in C and Rust: a site by value in and out, cells and record as slices, the answer as six numbers in a lent array.
 ghost use mathlib.Core.Path.{_≡_};
-ghost use Rattle.plain.specs.Site.{offer, confirm, work, read, look};
+ghost use mathlib.Core.List.{[]};
+ghost use Rattle.plain.specs.Site.{offer, confirm, work, read, look, query};
+ghost use Rattle.store.specs.Meaning.{cellsOf};
 ghost use Rattle.text.specs.Calls as T;
 ghost use Rattle.site.specs.Held.{store, stateOf, answerOf};
-ghost use Rattle.host.specs.Told.{told, toldFresh, toldText, Told, ToldFresh, ToldText};
+ghost use Rattle.host.specs.Told.{told, shown, toldFresh, toldText, Told, ToldWork, ToldFresh, ToldText, Readable};
+use cells::CELLS;
+use cells::copy_cells;
 use site::Answer;
 use site::Site;
 use text::Outcome;
@@ -34,6 +38,10 @@ const STARTED: u64 = 9;
 
 const WRITTEN: u64 = 10;
 
+const BEGUN: u64 = 11;
+
+const ENTRY: u64 = 12;
+
 // The refusals of the text form.
 const NO_RECORD: u64 = 3;
 
@@ -41,9 +49,9 @@ const BAD_TEXT: u64 = 15;
 
 const SHORT_BUFFER: u64 = 16;
 
-// Writes the six numbers of an answer.
-fn tell(answer: Answer, out: &mut [u64; NUMBERS])
-    ensures { λ _. ⌜ now (out .exit) ≡ told (answerOf answer) ⌝ }
+// Writes the six numbers of an answer; of an entry also the class that was asked for.
+fn tell(answer: Answer, class: u64, out: &mut [u64; NUMBERS])
+    ensures { λ _. ⌜ now (out .exit) ≡ told class (answerOf answer []) ⌝ }
 {
     match answer {
         Answer::Refused(n) => {
@@ -98,6 +106,12 @@ fn tell(answer: Answer, out: &mut [u64; NUMBERS])
         Answer::Unconfirmed { backs } => {
             *out = [UNCONFIRMED, backs, 0, 0, 0, 0];
         }
+        Answer::Begun { place } => {
+            *out = [BEGUN, place as u64, 0, 0, 0, 0];
+        }
+        Answer::Entry { place } => {
+            *out = [ENTRY, place as u64, class, 0, 0, 0];
+        }
     }
 }
 
@@ -151,7 +165,7 @@ pub extern "C" fn shpendorak_offer(
 {
     let reply = promised::offer(site, committed, working, booking);
     let given = reply.answer;
-    tell(given, answer);
+    tell(given, 0, answer);
     let next = reply.site;
     next
 }
@@ -170,25 +184,60 @@ pub extern "C" fn shpendorak_confirm(
 {
     let reply = promised::confirm(site, committed, working, id, number);
     let given = reply.answer;
-    tell(given, answer);
+    tell(given, 0, answer);
     let next = reply.site;
     next
 }
 
-// The head of a class does its next operation; or refuses with 1, 2, 10 or 11.
+// Where an entry was read, the committed cells of its class are put into an array.
+fn show(answer: Answer, committed: &[u32], class: u64, entry: &mut [u32; CELLS])
+    requires { ⌜ Readable answer (now committed) class ⌝ }
+    ensures { λ _. ⌜ now (entry .exit) ≡ shown (answerOf answer (cellsOf (now (committed .entry)) class)) (now (entry .entry)) ⌝ }
+{
+    match answer {
+        Answer::Entry { .. } => {
+            let a = CELLS * (class as usize);
+            let b = a + CELLS;
+            copy_cells(entry, &committed[a..b]);
+        }
+        _ => {}
+    }
+}
+
+// The head of a class does its next operation, or an entry of a query there is read, and its cells put into `entry`; or refuses with 1, 2, 10 or 11.
 #[no_mangle]
 pub extern "C" fn shpendorak_work(
     site: Site,
     committed: &mut [u32],
     working: &mut [u32],
     class: u64,
+    entry: &mut [u32; CELLS],
     answer: &mut [u64; NUMBERS],
 ) -> Site
-    ensures { λ r. ⌜ Told (stateOf site (now (committed .entry)) (now (working .entry))) (work class) (stateOf r (now (committed .exit)) (now (working .exit))) (now (answer .exit)) ⌝ }
+    ensures { λ r. ⌜ ToldWork (stateOf site (now (committed .entry)) (now (working .entry))) class (stateOf r (now (committed .exit)) (now (working .exit))) (now (entry .entry)) (now (entry .exit)) (now (answer .exit)) ⌝ }
 {
     let reply = promised::work(site, committed, working, class);
     let given = reply.answer;
-    tell(given, answer);
+    show(given, &*committed, class, entry);
+    tell(given, class, answer);
+    let next = reply.site;
+    next
+}
+
+// Begins a query over the classes of a mask, bit c for class c; or refuses with 1, 2, 17, 18 or 24.
+#[no_mangle]
+pub extern "C" fn shpendorak_query(
+    site: Site,
+    committed: &[u32],
+    working: &mut [u32],
+    mask: u16,
+    answer: &mut [u64; NUMBERS],
+) -> Site
+    ensures { λ r. ⌜ Told (stateOf site (now (committed .entry)) (now (working .entry))) (query mask) (stateOf r (now (committed .entry)) (now (working .exit))) (now (answer .exit)) ⌝ }
+{
+    let reply = promised::query(site, committed, working, mask);
+    let given = reply.answer;
+    tell(given, 0, answer);
     let next = reply.site;
     next
 }
@@ -215,7 +264,7 @@ pub extern "C" fn shpendorak_read(
             *answer = [VALUE, n as u64, 0, 0, 0, 0];
         }
         _ => {
-            tell(given, answer);
+            tell(given, 0, answer);
         }
     }
     site
@@ -233,7 +282,7 @@ pub extern "C" fn shpendorak_look(
     ensures { λ r. ⌜ Told (stateOf site (now (committed .entry)) (now (working .entry))) (look id) (stateOf r (now (committed .entry)) (now (working .entry))) (now (answer .exit)) ⌝ }
 {
     let given = promised::look(site, committed, working, id);
-    tell(given, answer);
+    tell(given, 0, answer);
     site
 }
 

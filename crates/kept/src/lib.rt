@@ -20,6 +20,9 @@ const MARK_STEP: u32 = 4096;
 // Slots are 0 to 127.
 const SLOTS: usize = 128;
 
+// The slots' numbers stand before as much of each of the 8 queries, which is passed over here.
+const LINES: usize = 136;
+
 // Whether place p is that of a number given: all are, once 256 numbers were.
 fn in_use(p: usize, confirmations: u32) -> bool
     requires { ⌜ p < 256 ⌝ }
@@ -140,7 +143,7 @@ fn matches<'a>(
 // "A queued request has a kept id exactly if its number is kept, and then the one under it."
 fn all_match<'a>(
     ids: &'a [u32; SLOTS],
-    numbers: &'a [u32; SLOTS],
+    numbers: &'a [u32; LINES],
     kept: &'a [u32; KEPT],
     marks: &'a [u8; MARKS],
     confirmations: u32,
@@ -164,7 +167,7 @@ fn all_match<'a>(
 // Whether the kept ids follow their sound rules, with the slots' ids and numbers.
 pub fn kept_ok<'a>(
     ids: &'a [u32; SLOTS],
-    numbers: &'a [u32; SLOTS],
+    numbers: &'a [u32; LINES],
     kept: [u32; KEPT],
     confirmations: u32,
 ) -> bool

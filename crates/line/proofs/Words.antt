@@ -4,7 +4,7 @@ use Prim.Native.Char.{code}
 use Prim.Native.String.{String, [] as end, _∷_ as _then_}
 use mathlib.Core.Path.{_≡_, refl}
 use mathlib.Core.List.{List, _∷_, []}
-use Rattle.plain.specs.Steps.{refused, queued, stepped, executed, committed, waiting, value, toDo, unconfirmed}
+use Rattle.plain.specs.Steps.{refused, queued, stepped, executed, committed, waiting, value, toDo, unconfirmed, begun, entry}
 use Rattle.line.specs.Text.{wordOf}
 
 -- the codes of a text's characters
@@ -23,6 +23,8 @@ pub record Words : Type 0 where
   pub of-value : (x : ℕ) → wordOf (value x) ≡ ascii "value"
   pub of-to-do : (w b : ℕ) → wordOf (toDo w b) ≡ ascii "to-do"
   pub of-unconfirmed : (b : ℕ) → wordOf (unconfirmed b) ≡ ascii "unconfirmed"
+  pub of-begun : (p : ℕ) → wordOf (begun p) ≡ ascii "begun"
+  pub of-entry : (p : ℕ) (l : List ℕ) → wordOf (entry p l) ≡ ascii "entry"
 
 pub words : Words
 words = record {
@@ -35,4 +37,6 @@ words = record {
   of-value = λ x. refl;
   of-to-do = λ w b. refl;
   of-unconfirmed = λ b. refl;
+  of-begun = λ p. refl;
+  of-entry = λ p l. refl;
 }

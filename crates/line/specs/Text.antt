@@ -3,7 +3,7 @@ use Prim.Native.Nat.{ℕ}
 use mathlib.Core.List.{List, [], _∷_, _++_}
 use lib.ListN.{take}
 use Rattle.decimal.specs.Decimal.{decimal, blanked}
-use Rattle.plain.specs.Steps.{Answer, refused, queued, stepped, executed, committed, waiting, value, toDo, unconfirmed}
+use Rattle.plain.specs.Steps.{Answer, refused, queued, stepped, executed, committed, waiting, value, toDo, unconfirmed, begun, entry}
 use Rattle.line.specs.declared.Line.{Line}
 
 -- the words, in ASCII
@@ -17,8 +17,10 @@ wordOf (waiting id w putBack) = 119 ∷ 97 ∷ 105 ∷ 116 ∷ 105 ∷ 110 ∷ 1
 wordOf (value cell) = 118 ∷ 97 ∷ 108 ∷ 117 ∷ 101 ∷ []
 wordOf (toDo w backs) = 116 ∷ 111 ∷ 45 ∷ 100 ∷ 111 ∷ []
 wordOf (unconfirmed backs) = 117 ∷ 110 ∷ 99 ∷ 111 ∷ 110 ∷ 102 ∷ 105 ∷ 114 ∷ 109 ∷ 101 ∷ 100 ∷ []
+wordOf (begun place) = 98 ∷ 101 ∷ 103 ∷ 117 ∷ 110 ∷ []
+wordOf (entry place cells) = 101 ∷ 110 ∷ 116 ∷ 114 ∷ 121 ∷ []
 
--- the numbers after the word, in document 01's order
+-- the numbers after the word, in document 01's order; of an entry the query's place, and not its cells
 abbrev pub numbersOf : Answer → List ℕ
 numbersOf (refused reason) = reason ∷ []
 numbersOf (queued id class place slot) = id ∷ class ∷ place ∷ slot ∷ []
@@ -29,6 +31,8 @@ numbersOf (waiting id w putBack) = id ∷ w ∷ putBack ∷ []
 numbersOf (value cell) = cell ∷ []
 numbersOf (toDo w backs) = w ∷ backs ∷ []
 numbersOf (unconfirmed backs) = backs ∷ []
+numbersOf (begun place) = place ∷ []
+numbersOf (entry place cells) = place ∷ []
 
 -- the place, a blank, the word, the numbers, and a newline
 unfoldable pub lineWith : ℕ → List ℕ → List ℕ → List ℕ

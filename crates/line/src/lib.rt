@@ -1,7 +1,7 @@
 // The text of one line of output: the event's place in the input, a word, numbers.
 ghost use Prim.Native.Nat.{_+_, _*_, _≤_};
 ghost use mathlib.Core.Path.{_≡_};
-ghost use mathlib.Core.List.{_++_};
+ghost use mathlib.Core.List.{[], _++_};
 ghost use lib.ListN.{length};
 ghost use Rattle.site.specs.Held.{answerOf};
 ghost use Rattle.decimal.specs.Decimal.{decimal, blanked};
@@ -16,7 +16,7 @@ pub struct Line {
 
 // The line that an answer to the event at a place gives.
 pub fn line_of(place: u64, answer: Answer) -> Line
-    ensures { λ r. ⌜ written r ≡ lineOf place (answerOf answer) ⌝ }
+    ensures { λ r. ⌜ written r ≡ lineOf place (answerOf answer []) ⌝ }
     ensures { λ r. ⌜ r .len ≤ 144 ⌝ }
 {
     match answer {
@@ -52,6 +52,8 @@ pub fn line_of(place: u64, answer: Answer) -> Line
         Answer::Value(n) => whole(place, b"value", &[n as u64]),
         Answer::ToDo { w, backs } => whole(place, b"to-do", &[w as u64, backs]),
         Answer::Unconfirmed { backs } => whole(place, b"unconfirmed", &[backs]),
+        Answer::Begun { place: at } => whole(place, b"begun", &[at as u64]),
+        Answer::Entry { place: at } => whole(place, b"entry", &[at as u64]),
     }
 }
 

@@ -1,15 +1,16 @@
--- Document 01, "Both sides of each edge": the cases marked P, those of the mark and of the count of times put back, in one table under
+-- Document 01, "Both sides of each edge": the cases marked P, those of the mark, of the count of times put back and of queries, in one table under
 -- one statement about the definitions. Assumes nothing.
 use Prim.Native.Nat.{ℕ, zero, suc, _-_}
 use mathlib.Core.Path.{_≡_, refl}
 use mathlib.Core.List.{List, [], _∷_, _++_, map}
-use lib.ListN.{length, drop}
+use lib.ListN.{length, drop, set, replicate}
 use Rattle.plain.specs.Sizes.{slotCount, mostW}
 use Rattle.plain.specs.Ops.{Op, put, add, need, move, carry, opOk, valid}
 use Rattle.plain.specs.Record.{requestIn, isRecord, request}
-use Rattle.plain.specs.Steps.{Answer, queued, stepped, executed, committed, waiting, value, toDo, unconfirmed, offerStep, workStep, confirmStep}
-use Rattle.plain.specs.Site.{Call, work, confirm, read, look, fresh, call, act, refusal, classOf, isFree, freeSlot, numberQueued, isKept}
-use Rattle.plain.specs.Site.{sum, standing}
+use Rattle.plain.specs.Steps.{Answer, refused, queued, stepped, executed, committed, waiting, value, toDo, unconfirmed, begun, entry}
+use Rattle.plain.specs.Steps.{offerStep, workStep, confirmStep, queryStep}
+use Rattle.plain.specs.Site.{Call, work, confirm, read, look, query, fresh, zeros, call, act, refusal, classOf, isFree, freeSlot, numberQueued, isKept}
+use Rattle.plain.specs.Site.{sum, standing, bits, named, firstNamed, isOpen, freePlace}
 use Rattle.plain.proofs.Written.{fourBytes, opBytes, opsBytes, recordOf, offerOf, answers}
 
 -- request i of class 0; and its whole run as number n: offered, confirmed, worked off
@@ -98,11 +99,32 @@ table =
       calls = req 1 (put 0 1 ∷ []) ∷ req 2 (put 0 2 ∷ []) ∷ req 3 (put 0 3 ∷ []) ∷ look 1 ∷ work 0 ∷ confirm 2 1 ∷ look 1 ∷ look 2 ∷ work 0 ∷ confirm 3 2 ∷ confirm 1 3 ∷ look 1 ∷ work 0 ∷ work 0 ∷ [];
       end = unconfirmed 0 ∷ executed 1 ∷ waiting 2 1 1 ∷ unconfirmed 1 ∷ toDo 1 0 ∷ committed 2 1 0 1 0 ∷ waiting 3 1 1 ∷ waiting 1 2 0 ∷ toDo 2 2 ∷ committed 3 2 0 2 0 ∷ committed 1 3 0 0 2 ∷ [];
     }
-    -- the most that W can be: all slots hold requests of seven operations in one class, and the last is confirmed
-    ∷ record { calls = each (λ i. req i seven) slotCount ++ each (λ i. confirm i i) slotCount; end = waiting slotCount mostW 0 ∷ [] }
+    -- a query of no class is refused, and only 16 classes are looked at; one of classes 0 and 1 puts the executed head back, and reads the cells
+    -- without it in both
+    ∷ record {
+      calls = query 0 ∷ query 65536 ∷ req 1 (put 0 5 ∷ []) ∷ work 0 ∷ query 3 ∷ look 1 ∷ work 0 ∷ work 0 ∷ work 1 ∷ work 1 ∷ [];
+      end = refused 17 ∷ refused 17 ∷ queued 1 0 1 0 ∷ executed 1 ∷ begun 1 ∷ unconfirmed 1 ∷ entry 1 zeros ∷ executed 1 ∷ entry 1 zeros ∷ refused 11 ∷ [];
+    }
+    -- it reads what was confirmed before it and not what was confirmed after; its entry counts 1 in the W of the request behind it and in the place
+    -- of an offer, and leaves the W of the request before it
+    ∷ record {
+      calls = req 1 (put 0 5 ∷ []) ∷ req 2 (put 0 6 ∷ []) ∷ confirm 1 1 ∷ query 1 ∷ look 1 ∷ confirm 2 2 ∷ req 3 (put 0 7 ∷ []) ∷ work 0 ∷ work 0 ∷ work 0 ∷ [];
+      end = waiting 1 1 0 ∷ begun 1 ∷ toDo 1 0 ∷ waiting 2 3 0 ∷ queued 3 0 4 2 ∷ committed 1 1 0 0 0 ∷ entry 1 (set zeros 0 5) ∷ committed 2 2 0 1 0 ∷ [];
+    }
+    -- a query is open until its last entry is read, and the lowest free place is taken; 8 may be open
+    ∷ record {
+      calls = query 3 ∷ work 0 ∷ query 1 ∷ work 1 ∷ query 4 ∷ [];
+      end = begun 1 ∷ entry 1 zeros ∷ begun 2 ∷ entry 1 zeros ∷ begun 1 ∷ [];
+    }
+    ∷ record { calls = replicate 9 (query 32768) ++ (work 15 ∷ query 32768 ∷ []); end = begun 7 ∷ begun 8 ∷ refused 18 ∷ entry 1 zeros ∷ begun 1 ∷ [] }
+    -- the most that W can be: all slots hold requests of seven operations in one class, all but the last are confirmed, and 8 queries stand before it
+    ∷ record {
+      calls = each (λ i. req i seven) slotCount ++ each (λ i. confirm i i) 127 ++ replicate 8 (query 1) ++ (confirm slotCount slotCount ∷ []);
+      end = waiting slotCount mostW 0 ∷ [];
+    }
     ∷ []
 
 -- each case's last answers are those of the table
 pub cases : map (λ (k : Case). last (length (k .end)) (answers fresh (k .calls))) table ≡ map (λ (k : Case). k .end) table
-unfolding table works run req each seven last top fourBytes opBytes opsBytes recordOf offerOf answers fresh call act refusal classOf isFree freeSlot numberQueued isKept sum standing offerStep workStep confirmStep requestIn isRecord request valid opOk carry
+unfolding table works run req each seven last top fourBytes opBytes opsBytes recordOf offerOf answers fresh call act refusal classOf isFree freeSlot numberQueued isKept sum standing bits named firstNamed isOpen freePlace offerStep workStep confirmStep queryStep requestIn isRecord request valid opOk carry
 cases = refl

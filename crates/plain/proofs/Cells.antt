@@ -11,9 +11,9 @@ use borrow.Author.Tests.{ltb-true}
 use Rattle.plain.specs.Sizes.{word}
 use Rattle.plain.specs.Ops.{Op, put, add, need, move, carry, cell, reported, leaves, opRules, opOk}
 use Rattle.plain.specs.Record.{requestIn}
-use Rattle.plain.specs.Queue.{Entry, Item, opsOf, isExecuted, isConfirmed, idIs}
-use Rattle.plain.specs.Steps.{Class, tried, advanced, workOn, workStep, offerStep, confirmOn, confirmStep}
-use Rattle.plain.specs.Site.{Site, Call, offer, work, confirm, read, look, call, act, accepts, fresh, classOf, inClass}
+use Rattle.plain.specs.Queue.{Entry, Item, booking, reading, opsOf, isExecuted, isConfirmed, idIs}
+use Rattle.plain.specs.Steps.{Class, tried, advanced, workOn, workStep, offerStep, confirmOn, confirmStep, queryOn, queryStep}
+use Rattle.plain.specs.Site.{Site, Call, offer, work, confirm, read, look, query, call, act, accepts, fresh, classOf, inClass, begins, named, freePlace}
 use Rattle.plain.specs.Steps.{Did}
 use Rattle.plain.specs.Sound.{All, Belongs, SoundSite, Sized, SizedSite}
 use Rattle.plain.proofs.Tests.{by-test, all-true}
@@ -60,7 +60,7 @@ next-ok [] k h = unfold opOk in refl
 next-ok (o ∷ os) zero h = h .0
 next-ok (o ∷ os) (suc k) h = next-ok os k (h .1)
 
-tried-sized : (c : ℕ) (e : Entry) (base w : List ℕ) → Belongs c e → Sized base → Sized w → Sized (leaves (tried e w) base)
+tried-sized : (c : ℕ) (e : Entry) (base w : List ℕ) → Belongs c (booking e) → Sized base → Sized w → Sized (leaves (tried e w) base)
 tried-sized c e base w b p q =
     by-test (eqb (e .mark) 0)
     (λ t. rw t (go (carry o w) (carry-sized o w (next-ok (opsOf e) (e .done) (is-valid (e .request) (b .valid) .ops)) q)))
@@ -83,10 +83,11 @@ work-sized c k b h = go (k .queue) b
   where
     go : (q : List Item) → All (Belongs c) q → SizedClass (workOn q (k .committed) (k .working) .class)
     go [] b = h
-    go (e ∷ rest) b =
+    go (reading p n ∷ rest) b = h
+    go (booking e ∷ rest) b =
         let t = tried-sized c e (k .committed) (k .working) (b .0) (h .0) (h .1) in
-        by-test (isExecuted (advanced e (tried e (k .working))))
-        (λ x. by-test (isConfirmed e) (λ y. rw (x, y) (t, t)) (λ y. rw (x, y) (h .0, t)))
+        by-test (isExecuted (booking (advanced e (tried e (k .working)))))
+        (λ x. by-test (isConfirmed (booking e)) (λ y. rw (x, y) (t, t)) (λ y. rw (x, y) (h .0, t)))
         (λ x. rw x (h .0, t))
 
 confirm-sized : (i n : ℕ) (k : Class) → SizedClass k → SizedClass (confirmStep i n k .class)
@@ -99,6 +100,14 @@ confirm-sized i n k h = go (k .queue)
         by-test (idIs i x)
         (λ y. by-test (isExecuted x) (λ e. rw (y, e) (h .1, h .1)) (λ e. rw (y, e) h))
         (λ y. by-test (isConfirmed x) (λ t. rw (y, t) h) (λ t. rw (y, t) (h .0, h .0)))
+
+query-sized : (p b : ℕ) (k : Class) → SizedClass k → SizedClass (queryStep p b k)
+unfolding queryStep
+query-sized p b k h = go (k .queue)
+  where
+    go : (q : List Item) → SizedClass (queryOn (reading p b) q (k .committed) (k .working))
+    go [] = h
+    go (x ∷ rest) = by-test (isConfirmed x) (λ t. rw t h) (λ t. rw t (h .0, h .0))
 
 -- the site's
 sized-of : (s : Site) → ((c : ℕ) → SizedClass (s .class c)) → SizedSite s
@@ -123,6 +132,8 @@ call-sized s k w z = by-test (accepts s k) (λ t. rw t (go k t)) (λ f. rw f z)
         one-sized s (classOf s i) (some i) (confirmStep i n (s .class (classOf s i))) z (confirm-sized i n (s .class (classOf s i)) (at (classOf s i)))
     go (read c k) a = z
     go (look i) a = z
+    go (query m) a =
+        sized-of (begins s m) (λ c. by-test (named m c) (λ t. rw t (query-sized (freePlace s) (s .confirmations) (s .class c) (at c))) (λ f. rw f (at c)))
 
 pub fresh-sized : SizedSite fresh
 unfolding fresh

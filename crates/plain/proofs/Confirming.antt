@@ -1,21 +1,21 @@
 -- What a confirmation does in its class: the request is committed at once or moves behind the confirmed ones, and the class stays sound. Assumes nothing.
 use Prim.Native.Nat.{ℕ, _+_, _<_, _≤_}
 use native.Mathlib.Omega.{arith}
-use mathlib.Core.Path.{_≡_, refl, _∙_}
+use mathlib.Core.Path.{_≡_, refl, ap, _∙_}
 use mathlib.Core.Logic.{_⊎_, inl, inr}
 use mathlib.Core.Bool.{Bool, true, false}
 use mathlib.Core.Option.{some}
 use mathlib.Core.List.{List, [], _∷_, _++_}
 use Rattle.plain.specs.Ops.{runAll}
-use Rattle.plain.specs.Queue.{Item, isExecuted, idIs, isConfirmed, line, asks}
+use Rattle.plain.specs.Queue.{Item, reading, isExecuted, idIs, isConfirmed, backsOf, line, asks}
 use Rattle.plain.specs.Queue.{firstOf, dropOf, has, entryOf, without, owed, confirmedPart, beforeWaiting}
 use Rattle.plain.specs.Steps.{Class, classWith, Did, committed, waiting}
 use Rattle.plain.specs.Steps.{numbered, putBack, backed, backCells, backId}
-use Rattle.plain.specs.Steps.{moved, confirmOn, confirmStep}
+use Rattle.plain.specs.Steps.{moved, confirmOn, confirmStep, queryOn, queryStep}
 use Rattle.plain.specs.Site.{confirmedAt}
-use Rattle.plain.specs.Sound.{All, Waiting, Follows, InOrder, Belongs, Untouched, Working, SoundClass}
+use Rattle.plain.specs.Sound.{All, Waiting, Follows, InOrder, Placed, Belongs, Untouched, Working, SoundClass}
 use Rattle.plain.proofs.Tests.{by-test, no}
-use Rattle.plain.proofs.Items.{follows-confirmed, waiting-unconfirmed, Lasting, Numbered, is-numbered, is-back}
+use Rattle.plain.proofs.Items.{follows-confirmed, waiting-unconfirmed, Lasting, back-test, Numbered, is-numbered, is-back}
 use Rattle.plain.proofs.Items.{at-head, executed-cells}
 use Rattle.plain.proofs.Queues.{all-drop, all-before, all-first, find, first-passes, one-same}
 use Rattle.plain.proofs.Queues.{count-before, count-drop, waiting-order, order-drop}
@@ -24,7 +24,7 @@ use Rattle.plain.proofs.Steps.{raise, ended, Turnover, nothing, that}
 
 -- A waiting head is put back
 backed-test : (f : Item → Bool) → Lasting f → (x : Item) → f (backed x) ≡ f x
-backed-test f l x = by-test (isConfirmed x) (λ t. rw t) (λ g. rw g (l .back x))
+backed-test f l x = by-test (isConfirmed x) (λ t. rw t) (λ g. rw g (back-test f l x))
 
 backed-part : (m top : ℕ) (x : Item) (rest : List Item) → InOrder m top (x ∷ rest) → confirmedPart (backed x ∷ rest) ≡ confirmedPart (x ∷ rest)
 backed-part m top x rest o =
@@ -100,7 +100,7 @@ module _ (c top i n : ℕ) (x : Item) (rest : List Item) (base w : List ℕ) (s 
       (λ e. let z = m .ends in
       rw (y, e) (
         raise c top n (classWith rest w w) (omega arith) (ended c top x rest base w w s),
-        at-once x (z .0) (z .1) (x .backs) is part (none-confirmed rest all) (executed-cells x base w e (s .working .0)) (z .2) (λ f l. omega arith),
+        at-once x (z .0) (z .1) (backsOf (numbered n x)) is part (none-confirmed rest all) (executed-cells x base w e (s .working .0)) (z .2 w) (λ f l. omega arith),
       ))
       (λ e. rw (y, e, moves) (
         record {
@@ -204,3 +204,36 @@ confirm-step c top i n k s h u t = go (k .queue) s h u
         by-test (idIs i x)
         (is-head c top i n x rest (k .committed) (k .working) s h u t)
         (not-head c top i n x rest (k .committed) (k .working) s h u t)
+
+-- QUERY, on a class: its entry y stands at the end of the confirmed part
+pub record Joins (y : Item) (c top : ℕ) (k k′ : Class) : Type 0 where
+  pub sound : SoundClass c top k′
+  pub part : confirmedPart (k′ .queue) ≡ confirmedPart (k .queue) ++ (y ∷ [])
+  pub cells : k′ .committed ≡ k .committed
+  pub turnover : Turnover k k′ nothing (that y)
+
+pub query-step : (c top p : ℕ) (k : Class) → Placed p → SoundClass c top k → Joins (reading p top) c top k (queryStep p top k)
+unfolding queryStep
+query-step c top p k l s = go (k .queue) s
+  where
+    y : Item
+    y = reading p top
+
+    go : (q : List Item) → SoundClass c top (classWith q (k .committed) (k .working))
+        → Joins y c top (classWith q (k .committed) (k .working)) (queryOn y q (k .committed) (k .working))
+    go [] s = record {
+      sound = record { belong = (l, tt); order = inl (omega arith, omega arith, tt); working = (s .working, tt) };
+      part = refl;
+      cells = refl;
+      turnover = λ f h. omega arith;
+    }
+    go (x ∷ rest) s =
+        let b = settled c top x rest (k .committed) (k .working) s in
+        let r = entered c top top y (backed x) rest (k .committed) (backCells x (k .committed) (k .working)) (b .0) (b .1) tt l
+        (omega arith) (omega arith) (omega arith) in
+        record {
+          sound = r .0;
+          part = r .1 ∙ ap (λ (q : List Item). q ++ (y ∷ [])) (backed-part 0 top x rest (s .order));
+          cells = refl;
+          turnover = λ f h. omega (arith, count-before f y (backed x ∷ rest), one-same f (backed x) x (backed-test f h x));
+        }

@@ -12,7 +12,7 @@ use Rattle.plain.specs.Queue.{asked, confirmedPart}
 use Rattle.plain.specs.Steps.{committed}
 use Rattle.plain.specs.Site.{Call, fresh, zeros, call}
 use Rattle.plain.specs.Sound.{SoundSite}
-use Rattle.plain.specs.History.{after, under, confirmedBy, committedBy, confirmations, commits, ofClass, requests}
+use Rattle.plain.specs.History.{after, confirmedBy, committedBy, confirmations, commits, ofClass, requests}
 use Rattle.plain.specs.History.{confirmedIn, committedIn}
 use Rattle.plain.specs.Demands.{Demand2}
 use Rattle.plain.proofs.Tests.{by-test}

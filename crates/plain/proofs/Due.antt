@@ -4,27 +4,24 @@ use native.Mathlib.Omega.{arith}
 use mathlib.Core.Path.{_≡_, refl, sym, ap, _∙_}
 use mathlib.Core.Logic.{_⊎_, inl, inr}
 use mathlib.Core.Bool.{Bool, true, false}
-use mathlib.Core.Option.{none, some}
+use mathlib.Core.Option.{some}
 use mathlib.Core.List.{List, [], _∷_, _++_, append-assoc}
 use borrow.Author.Tests.{lt-leb, ltb-true}
-use Rattle.plain.specs.Queue.{Item, isConfirmed, line, left, any, firstOf, upTo, confirmedPart}
+use Rattle.plain.specs.Ops.{Request, runAll}
+use Rattle.plain.specs.Queue.{Item, booking, reading, isConfirmed, backsOf, line, left, asks, asked, any, firstOf, upTo, confirmedPart, costs}
 use Rattle.plain.specs.Steps.{Class, Did, Answer, ending, idle}
-use Rattle.plain.specs.Site.{work, call}
-use Rattle.plain.specs.Site.{confirmedAt, commitOf}
+use Rattle.plain.specs.Site.{confirmedAt}
 use Rattle.plain.specs.Sound.{All, Untouched, Belongs, InOrder, AtHead, Working, SoundClass}
 use Rattle.plain.proofs.Tests.{by-test, no, or-left, or-right}
 use Rattle.plain.proofs.Items.{follows-confirmed, waiting-unconfirmed, is-valid, Lasting}
 use Rattle.plain.proofs.Queues.{none-confirmed}
-use Rattle.plain.proofs.Steps.{Works, unconcerned, one-done, last-done}
+use Rattle.plain.proofs.Steps.{Silent, Works, unconcerned, one-done, last-done}
 use Rattle.plain.proofs.Confirming.{Confirms, at-once, later}
+use Rattle.plain.proofs.Demand2.{run-append}
 
--- the work calls that a queue takes
-abbrev pub costs : List Item → ℕ
-costs [] = 0
-costs (x ∷ q) = left x + costs q
-
--- The first of the confirmed part that passes f stands in line at n, was put back so often, and its end is w work calls away
-pub record Due (k : Class) (f : Item → Bool) (n backs w : ℕ) : Type 0 where
+-- The first of the confirmed part that passes f stands in line at n, was put back so often, finds these cells when its turn comes, and its end is
+-- w work calls away
+pub record Due (k : Class) (f : Item → Bool) (n backs : ℕ) (cells : List ℕ) (w : ℕ) : Type 0 where
   pub before : List Item
   pub it : Item
   pub behind : List Item
@@ -32,28 +29,32 @@ pub record Due (k : Class) (f : Item → Bool) (n backs w : ℕ) : Type 0 where
   pub first-one : any f before ≡ false
   pub passes : f it ≡ true
   pub at : line it ≡ n
-  pub back-is : it .backs ≡ backs
+  pub back-is : backsOf it ≡ backs
+  pub finds : runAll (k .committed) (asked before) ≡ cells
   pub w-is : costs before + left it ≡ w
 
 -- An answer that says its end, and one that says nothing of it
-pub record Ends (f : Item → Bool) (n : ℕ) (a : Answer) : Type 0 where
+pub record Ends (f : Item → Bool) (n : ℕ) (cells : List ℕ) (a : Answer) : Type 0 where
   pub it : Item
   pub passes : f it ≡ true
   pub at : line it ≡ n
-  pub says : a ≡ ending it
+  pub says : a ≡ ending it (runAll cells (asks it))
 
 abbrev pub Others : (Item → Bool) → Answer → Type 0
-Others f a = (commitOf a ≡ none) ⊎ ((x : Item) × (f x ≡ false) × (a ≡ ending x))
+Others f a = Silent a ⊎ ((x : Item) × (v : List ℕ) × (f x ≡ false) × (a ≡ ending x v))
 
 -- what stands in a confirmed part takes a work call or more
 left-untouched : (c : ℕ) (x : Item) → Belongs c x → Untouched x → 0 < left x
-left-untouched c e b u = let v = is-valid (e .request) (b .valid) in omega arith
+left-untouched c (reading p n) b u = omega arith
+left-untouched c (booking e) b u = let v = is-valid (e .request) (b .valid) in omega arith
 
 left-head : (x : Item) (base w : List ℕ) → isConfirmed x ≡ true → AtHead x base w → 0 < left x
-left-head e base w t h = let l = h .unfinished (ltb-true 0 (e .number) t) in omega arith
+left-head (reading p n) base w t h = omega arith
+left-head (booking e) base w t h = let l = h .unfinished (ltb-true 0 (e .number) t) in omega arith
 
 busy-head : (x : Item) (q : List Item) (base w : List ℕ) → isConfirmed x ≡ true → AtHead x base w → idle (x ∷ q) ≡ false
-busy-head e q base w t h = lt-leb _ _ (h .unfinished (ltb-true 0 (e .number) t))
+busy-head (reading p n) q base w t h = refl
+busy-head (booking e) q base w t h = lt-leb _ _ (h .unfinished (ltb-true 0 (e .number) t))
 
 nowhere : {X : Type 0} (a : List Item) (y : Item) (b : List Item) → a ++ y ∷ b ≡ [] → X
 nowhere [] y b e = let o : _≡_ {A = ℕ} 0 1 = cc in absurd (omega arith)
@@ -87,9 +88,9 @@ not-there f m top (y ∷ q) (inl o) h =
     (λ t. no _ (follows-confirmed m y (o .0)) (rw t at h))
     (λ g. rw (follows-confirmed m y (o .0), g) (not-there f (line y) top q (o .2) (rw g at h)))
 
-module _ (f : Item → Bool) (n backs : ℕ) where
+module _ (f : Item → Bool) (n backs : ℕ) (cells : List ℕ) where
   -- its end is a work call or more away
-  pub due-positive : (c top : ℕ) (k : Class) (w : ℕ) → SoundClass c top k → Due k f n backs w → 0 < w
+  pub due-positive : (c top : ℕ) (k : Class) (w : ℕ) → SoundClass c top k → Due k f n backs cells w → 0 < w
   due-positive c top k w s u = omega (arith, go (k .queue) (s .belong) (s .working) (u .before) (u .is))
     where
       first : (y : Item) (q : List Item) → 0 < left y → (a : List Item) → y ∷ confirmedPart q ≡ a ++ u .it ∷ u .behind → 0 < costs a + left (u .it)
@@ -108,7 +109,7 @@ module _ (f : Item → Bool) (n backs : ℕ) where
           by-test (isConfirmed y) (λ t. first y q (left-head y _ _ t (w .0)) a (rw t at h)) (λ g. rest q (b .1) (w .1) a (rw g at h))
 
   -- the class can work
-  pub ready : (c top : ℕ) (k : Class) (w : ℕ) → SoundClass c top k → Due k f n backs w → idle (k .queue) ≡ false
+  pub ready : (c top : ℕ) (k : Class) (w : ℕ) → SoundClass c top k → Due k f n backs cells w → idle (k .queue) ≡ false
   ready c top k w s u = go (k .queue) (s .order) (s .working) (u .is)
     where
       go : (q : List Item) → InOrder 0 top q → Working q (k .committed) (k .working) → confirmedPart q ≡ u .before ++ u .it ∷ u .behind → idle q ≡ false
@@ -118,9 +119,9 @@ module _ (f : Item → Bool) (n backs : ℕ) where
           nowhere (u .before) (u .it) (u .behind) (sym h ∙ rw (waiting-unconfirmed x (o .0)) (none-confirmed q (o .1)))
 
   -- more behind it, or nothing, leaves it
-  more-behind : (k k′ : Class) (w : ℕ) (more : List Item) → confirmedPart (k′ .queue) ≡ confirmedPart (k .queue) ++ more
-      → Due k f n backs w → Due k′ f n backs w
-  more-behind k k′ w more e u = record {
+  pub more-behind : (k k′ : Class) (w : ℕ) (more : List Item) → confirmedPart (k′ .queue) ≡ confirmedPart (k .queue) ++ more
+      → k′ .committed ≡ k .committed → Due k f n backs cells w → Due k′ f n backs cells w
+  more-behind k k′ w more e b u = record {
     before = u .before;
     it = u .it;
     behind = u .behind ++ more;
@@ -129,11 +130,13 @@ module _ (f : Item → Bool) (n backs : ℕ) where
     passes = u .passes;
     at = u .at;
     back-is = u .back-is;
+    finds = rw b (u .finds);
     w-is = u .w-is;
   }
 
-  pub same-part : (k k′ : Class) (w : ℕ) → confirmedPart (k′ .queue) ≡ confirmedPart (k .queue) → Due k f n backs w → Due k′ f n backs w
-  same-part k k′ w e u = record {
+  pub same-part : (k k′ : Class) (w : ℕ) → confirmedPart (k′ .queue) ≡ confirmedPart (k .queue) → k′ .committed ≡ k .committed
+      → Due k f n backs cells w → Due k′ f n backs cells w
+  same-part k k′ w e b u = record {
     before = u .before;
     it = u .it;
     behind = u .behind;
@@ -142,25 +145,27 @@ module _ (f : Item → Bool) (n backs : ℕ) where
     passes = u .passes;
     at = u .at;
     back-is = u .back-is;
+    finds = rw b (u .finds);
     w-is = u .w-is;
   }
 
-  pub confirm-due : (j m w : ℕ) (k : Class) (d : Did) → Confirms j m k d → Due k f n backs w → Due (d .class) f n backs w
+  pub confirm-due : (j m w : ℕ) (k : Class) (d : Did) → Confirms j m k d → Due k f n backs cells w → Due (d .class) f n backs cells w
   confirm-due j m w k d (at-once x b sl bk en p p′ r a t) u = nowhere (u .before) (u .it) (u .behind) (sym (u .is) ∙ p)
-  confirm-due j m w k d (later x y back en r e p c a t) u = more-behind k (d .class) w (y ∷ []) p u
+  confirm-due j m w k d (later x y back en r e p c a t) u = more-behind k (d .class) w (y ∷ []) p c u
 
 -- what an accepted work call makes of it: nearer by 1, and the answer speaks of others; or at 1 its end
-abbrev pub Nearer : Class → (Item → Bool) → ℕ → ℕ → ℕ → Answer → Type 0
-Nearer k f n backs w a = (Due k f n backs w × Others f a) ⊎ ((w ≡ 0) × Ends f n a)
+abbrev pub Nearer : Class → (Item → Bool) → ℕ → ℕ → List ℕ → ℕ → Answer → Type 0
+Nearer k f n backs cells w a = (Due k f n backs cells w × Others f a) ⊎ ((w ≡ 0) × Ends f n cells a)
 
-module _ (f : Item → Bool) (lasts : Lasting f) (n backs : ℕ) where
-  pub work-due : (w : ℕ) (k : Class) (d : Did) → Works k d → Due k f n backs (suc w) → Nearer (d .class) f n backs w (d .answer)
-  work-due w k d h u = go h (u .before) (u .is) (u .first-one) (u .w-is)
+module _ (f : Item → Bool) (lasts : Lasting f) (n backs : ℕ) (cells : List ℕ) where
+  pub work-due : (w : ℕ) (k : Class) (d : Did) → Works k d → Due k f n backs cells (suc w) → Nearer (d .class) f n backs cells w (d .answer)
+  unfolding runAll
+  work-due w k d h u = go h (u .before) (u .is) (u .first-one) (u .finds) (u .w-is)
     where
       go : Works k d → (a : List Item) → confirmedPart (k .queue) ≡ a ++ u .it ∷ u .behind → any f a ≡ false
-          → costs a + left (u .it) ≡ suc w → Nearer (d .class) f n backs w (d .answer)
-      go (unconcerned p p′ c z t) a is nf v = nowhere a (u .it) (u .behind) (sym is ∙ p)
-      go (one-done x y rest p p′ al l c z t) [] is nf v =
+          → runAll (k .committed) (asked a) ≡ cells → costs a + left (u .it) ≡ suc w → Nearer (d .class) f n backs cells w (d .answer)
+      go (unconcerned p p′ c z t) a is nf fd v = nowhere a (u .it) (u .behind) (sym is ∙ p)
+      go (one-done x y rest p p′ al l c z t) [] is nf fd v =
           let s : x ∷ rest ≡ u .it ∷ u .behind = sym p ∙ is in
           let hd : x ≡ u .it = cc in
           inl (
@@ -173,11 +178,12 @@ module _ (f : Item → Bool) (lasts : Lasting f) (n backs : ℕ) where
               passes = al .tests f lasts ∙ ap f hd ∙ u .passes;
               at = al .line-same ∙ ap line hd ∙ u .at;
               back-is = al .backs-same ∙ rw hd (u .back-is);
+              finds = c ∙ fd;
               w-is = omega (arith, ap left hd);
             },
             inl z,
           )
-      go (one-done x y rest p p′ al l c z t) (b ∷ a) is nf v =
+      go (one-done x y rest p p′ al l c z t) (b ∷ a) is nf fd v =
           let s : x ∷ rest ≡ b ∷ (a ++ u .it ∷ u .behind) = sym p ∙ is in
           let hd : b ≡ x = cc in
           let tl : rest ≡ a ++ u .it ∷ u .behind = cc in
@@ -191,11 +197,14 @@ module _ (f : Item → Bool) (lasts : Lasting f) (n backs : ℕ) where
               passes = u .passes;
               at = u .at;
               back-is = u .back-is;
+              finds = ap (λ (b : List ℕ). runAll b (asks y ++ asked a)) c
+                  ∙ ap (λ (rs : List Request). runAll (k .committed) (rs ++ asked a)) (al .asks-same ∙ sym (ap asks hd))
+                  ∙ fd;
               w-is = omega (arith, ap left hd);
             },
             inl z,
           )
-      go (last-done x y rest p p′ al en l r z t) [] is nf v =
+      go (last-done x y rest p p′ al en l r z t) [] is nf fd v =
           let s : x ∷ rest ≡ u .it ∷ u .behind = sym p ∙ is in
           let hd : x ≡ u .it = cc in
           inr (
@@ -204,10 +213,10 @@ module _ (f : Item → Bool) (lasts : Lasting f) (n backs : ℕ) where
               it = y;
               passes = al .tests f lasts ∙ ap f hd ∙ u .passes;
               at = al .line-same ∙ ap line hd ∙ u .at;
-              says = z;
+              says = z ∙ ap (ending y) (r ∙ ap (λ (rs : List Request). runAll (k .committed) rs) (sym (al .asks-same)) ∙ ap (λ (b : List ℕ). runAll b (asks y)) fd);
             },
           )
-      go (last-done x y rest p p′ al en l r z t) (b ∷ a) is nf v =
+      go (last-done x y rest p p′ al en l r z t) (b ∷ a) is nf fd v =
           let s : x ∷ rest ≡ b ∷ (a ++ u .it ∷ u .behind) = sym p ∙ is in
           let hd : b ≡ x = cc in
           let tl : rest ≡ a ++ u .it ∷ u .behind = cc in
@@ -221,7 +230,10 @@ module _ (f : Item → Bool) (lasts : Lasting f) (n backs : ℕ) where
               passes = u .passes;
               at = u .at;
               back-is = u .back-is;
+              finds = ap (λ (b : List ℕ). runAll b (asked a)) (r ∙ ap (λ (i : Item). runAll (k .committed) (asks i)) (sym hd))
+                  ∙ sym (run-append (k .committed) (asks b) (asked a))
+                  ∙ fd;
               w-is = omega (arith, ap left hd);
             },
-            inr (y, al .tests f lasts ∙ sym (ap f hd) ∙ or-left (f b) (any f a) nf, z),
+            inr (y, d .class .committed, al .tests f lasts ∙ sym (ap f hd) ∙ or-left (f b) (any f a) nf, z),
           )

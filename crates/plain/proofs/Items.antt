@@ -8,29 +8,37 @@ use mathlib.Core.List.{List, [], _∷_, _++_, map}
 use lib.Dec.{eqb}
 use lib.ListN.{length, take, getD}
 use lib.Seq.{take-suc, take-all, length-take-le}
-use borrow.Author.Tests.{lt-ltb, le-ltb, eqb-true, eq-eqb, leb-true, leb-false, ltb-true, eqb-false, ne-eqb, not-true}
+use borrow.Author.Tests.{lt-ltb, le-ltb, eqb-true, eq-eqb, leb-true, leb-false, ltb-true, ltb-false, eqb-false, ne-eqb, not-true}
 use Rattle.plain.specs.Sizes.{mostOps}
 use Rattle.plain.specs.Ops.{Op, put, Request, Ran, carried, declined, carry, reported, carryAt, carryFrom, carryAll, andThen, markOf, leaves}
 use Rattle.plain.specs.Ops.{opOk, requestRules, valid, runRequest, runAll}
-use Rattle.plain.specs.Queue.{Entry, Item, idOf, opsOf, isExecuted, idIs, isConfirmed, line, asks}
+use Rattle.plain.specs.Queue.{Entry, Item, booking, reading, idOf, opsOf, isExecuted, idIs, hasNumber, placeIs, readingIs, isConfirmed, backsOf, line, asks}
 use Rattle.plain.specs.Steps.{committed, ending, tried, advanced, numbered, putBack}
 use Rattle.plain.specs.Site.{Site, entryAt, commitsBy}
 use Rattle.plain.specs.Sound.{All, Waiting, Follows, Belongs, Untouched, soFar, Head, AtHead}
 use Rattle.plain.specs.History.{requestOf, committedBy}
-use Rattle.plain.proofs.Tests.{all-true}
+use Rattle.plain.proofs.Tests.{all-true, no}
 
 -- IN LINE
 pub follows-confirmed : (m : ℕ) (x : Item) → Follows m x → isConfirmed x ≡ true
-follows-confirmed m e h = lt-ltb 0 (e .number) (omega arith)
+follows-confirmed m (booking e) h = lt-ltb 0 (e .number) (omega arith)
+follows-confirmed m (reading p b) h = refl
 
 pub waiting-unconfirmed : (x : Item) → Waiting x → isConfirmed x ≡ false
-waiting-unconfirmed e h = le-ltb 0 (e .number) (omega arith)
+waiting-unconfirmed (booking e) h = le-ltb 0 (e .number) (omega arith)
+waiting-unconfirmed (reading p b) h = absurd h
+
+pub unconfirmed-waits : (x : Item) → isConfirmed x ≡ false → Waiting x
+unconfirmed-waits (booking e) f = omega (arith, ltb-false 0 (e .number) f)
+unconfirmed-waits (reading p b) f = no _ refl f
 
 pub follows-line : (m : ℕ) (x : Item) → Follows m x → m ≤ line x
-follows-line m e h = omega arith
+follows-line m (booking e) h = omega arith
+follows-line m (reading p b) h = h
 
 pub follows-weaken : (m m′ : ℕ) (x : Item) → m′ ≤ m → Follows m x → Follows m′ x
-follows-weaken m m′ e l h = omega arith
+follows-weaken m m′ (booking e) l h = omega arith
+follows-weaken m m′ (reading p b) l h = omega arith
 
 -- WHAT A VALID REQUEST HAS
 pub record Valid (r : Request) : Type 0 where
@@ -54,15 +62,43 @@ is-valid r v =
 
 -- LASTING TESTS: work and put-back do not change them
 pub record Lasting (f : Item → Bool) : Type 0 where
-  pub work : (e : Entry) (t : Ran) → f (advanced e t) ≡ f e
-  pub back : (e : Entry) → f (putBack e) ≡ f e
+  pub work : (e : Entry) (t : Ran) → f (booking (advanced e t)) ≡ f (booking e)
+  pub back : (e : Entry) → f (putBack (booking e)) ≡ f (booking e)
+
+pub back-test : (f : Item → Bool) → Lasting f → (x : Item) → f (putBack x) ≡ f x
+back-test f l (booking e) = l .back e
+back-test f l (reading p b) = refl
+
+-- WHAT HAS AN ID is a request
+pub request-of : (i : ℕ) (x : Item) → idIs i x ≡ true → (e : Entry) × (x ≡ booking e)
+request-of i (booking e) h = (e, refl)
+request-of i (reading p b) h = no _ h refl
+
+pub gets-number : (i n : ℕ) (x : Item) → idIs i x ≡ true → 0 < n → hasNumber (numbered n x) ≡ true
+gets-number i n (booking e) h l = lt-ltb 0 n l
+gets-number i n (reading p b) h l = no _ h refl
+
+pub no-place : (i p : ℕ) (x : Item) → idIs i x ≡ true → placeIs p x ≡ false
+no-place i p (booking e) h = refl
+no-place i p (reading q b) h = no _ h refl
+
+pub no-reading : (i p n : ℕ) (x : Item) → idIs i x ≡ true → readingIs p n x ≡ false
+no-reading i p n (booking e) h = refl
+no-reading i p n (reading q b) h = no _ h refl
+
+pub unconfirmed-unnumbered : (x : Item) → isConfirmed x ≡ false → hasNumber x ≡ false
+unconfirmed-unnumbered (booking e) f = f
+unconfirmed-unnumbered (reading p b) f = refl
 
 -- y is x but for the work done
 pub record Alike (x y : Item) : Type 0 where
   pub tests : (f : Item → Bool) → Lasting f → f y ≡ f x
   pub asks-same : asks y ≡ asks x
   pub line-same : line y ≡ line x
-  pub backs-same : y .backs ≡ x .backs
+  pub backs-same : backsOf y ≡ backsOf x
+
+pub alike-itself : (x : Item) → Alike x x
+alike-itself x = record { tests = λ f l. refl; asks-same = refl; line-same = refl; backs-same = refl }
 
 -- y is x, which has the id i, with its number n
 pub record Numbered (i n : ℕ) (x y : Item) : Type 0 where
@@ -73,11 +109,12 @@ pub record Numbered (i n : ℕ) (x y : Item) : Type 0 where
   pub belongs : (c : ℕ) → Belongs c x → Belongs c y
   pub untouched : Untouched x → Untouched y
   pub head : (base w : List ℕ) → isExecuted x ≡ false → AtHead x base w → AtHead y base w
-  pub backs-same : y .backs ≡ x .backs
-  pub ends : (b : ℕ) × (sl : ℕ) × (ending y ≡ committed i n b sl (y .backs))
+  pub backs-same : backsOf y ≡ backsOf x
+  pub ends : (b : ℕ) × (sl : ℕ) × ((w : List ℕ) → ending y w ≡ committed i n b sl (backsOf y))
 
 pub is-numbered : (i n : ℕ) (x : Item) → idIs i x ≡ true → Numbered i n x (numbered n x)
-is-numbered i n e h = record {
+is-numbered i n (reading p b) h = no _ h refl
+is-numbered i n (booking e) h = record {
   id = h;
   asks-same = refl;
   line-is = refl;
@@ -86,7 +123,7 @@ is-numbered i n e h = record {
   untouched = λ u. u;
   head = λ base w x a. record { within = a .within; unfinished = λ z. leb-false _ _ x; mark = a .mark; cells = a .cells };
   backs-same = refl;
-  ends = (e .mark, e .slot, rw (eqb-true (idOf e) i h));
+  ends = (e .mark, e .slot, λ w. rw (eqb-true (idOf e) i h));
 }
 
 -- y is x, which waits, put back
@@ -97,7 +134,8 @@ pub record Back (x y : Item) : Type 0 where
   pub untouched : Untouched y
 
 pub is-back : (x : Item) → Waiting x → Back x (putBack x)
-is-back e h = record { tests = λ f l. l .back e; waits = h; belongs = λ c b. b; untouched = (refl, refl) }
+is-back (reading p b) h = absurd h
+is-back (booking e) h = record { tests = λ f l. l .back e; waits = h; belongs = λ c b. b; untouched = (refl, refl) }
 
 -- AT THE HEAD
 then-carried : (p : ℕ) (m : Ran) → andThen m (carryFrom p []) ≡ m
@@ -157,22 +195,26 @@ tried-is e base w h l =
     go (carried r) b = refl
     go (declined p) b = let ne : p ≡ 0 → ⊥ = λ z. omega (arith, b .0) in rw (ne-eqb p 0 ne)
 
--- a request that becomes the head
+-- what becomes the head
 pub at-head : (c : ℕ) (x : Item) (base : List ℕ) → Untouched x → Belongs c x → AtHead x base base
-at-head c e base u b =
+at-head c (reading p n) base u b = refl
+at-head c (booking e) base u b =
     let v = is-valid (e .request) (b .valid) in
     record { within = omega arith; unfinished = λ n. omega arith; mark = rw (u .0, u .1); cells = rw (u .0) }
 
 -- an executed head's cells, and what its commit answers
 pub executed-cells : (x : Item) (base w : List ℕ) → isExecuted x ≡ true → AtHead x base w → w ≡ runAll base (asks x)
 unfolding runAll runRequest
-executed-cells e base w x a =
+executed-cells (reading p b) base w x a = no _ x refl
+executed-cells (booking e) base w x a =
     a .cells ∙ ap (λ (os : List Op). leaves (carryAll os base) base) (take-all (e .done) (opsOf e) (leb-true _ _ x))
 
-pub ending-commits : (x : Item) → commitsBy (ending x) ≡ 1
-ending-commits e = refl
+pub ending-commits : (x : Item) (w : List ℕ) → isConfirmed x ≡ true → commitsBy (ending x w) ≡ cond (hasNumber x) 1 0
+ending-commits (booking e) w t = rw t
+ending-commits (reading p b) w t = refl
 
-pub ending-committed : (s : Site) (x : Item) → ((i : ℕ) → idIs i x ≡ true → requestOf (entryAt s i) ≡ asks x)
-    → committedBy s (ending x) ≡ asks x
+pub ending-committed : (s : Site) (x : Item) (w : List ℕ) → ((i : ℕ) → idIs i x ≡ true → requestOf (entryAt s i) ≡ asks x)
+    → committedBy s (ending x w) ≡ asks x
 unfolding committedBy
-ending-committed s e h = h (idOf e) (eq-eqb (idOf e) (idOf e) refl)
+ending-committed s (booking e) w h = h (idOf e) (eq-eqb (idOf e) (idOf e) refl)
+ending-committed s (reading p b) w h = refl

@@ -6,17 +6,16 @@ use mathlib.Core.Logic.{inl, inr}
 use mathlib.Core.Bool.{true}
 use mathlib.Core.List.{List, [], _∷_, _++_}
 use lib.ListN.{length, length-append}
-use borrow.Author.Tests.{eqb-true, eq-eqb, ne-eqb}
+use borrow.Author.Tests.{eq-eqb, ne-eqb}
 use Rattle.plain.specs.Ops.{Request}
 use Rattle.plain.specs.Record.{request, requestIn}
-use Rattle.plain.specs.Queue.{idOf, idIs}
-use Rattle.plain.specs.Site.{Site, Call, offer, work, confirm, read, look, call, act, accepts, refusal, missing}
+use Rattle.plain.specs.Site.{Site, Call, offer, work, confirm, read, look, query, call, act, accepts, refusal, missing}
 use Rattle.plain.specs.Site.{classOf, isQueued, isKept}
 use Rattle.plain.specs.Sound.{All}
 use Rattle.plain.specs.History.{after, confirmedBy, confirmations}
 use Rattle.plain.specs.Demands.{Counted, Turned, KeptOut}
 use Rattle.plain.proofs.Tests.{by-test}
-use Rattle.plain.proofs.Queues.{find, first-passes}
+use Rattle.plain.proofs.Queues.{find-request}
 use Rattle.plain.proofs.Sites.{class-found, Confirmable, confirm-accepted}
 use Rattle.plain.proofs.Recent.{under-kept}
 use Rattle.plain.proofs.Logs.{counted}
@@ -42,6 +41,7 @@ module _ (s : Site) where
       go (confirm i m) = (omega arith, rw (ne-eqb n (suc (s .confirmations)) (λ e. omega arith)))
       go (read c k) = (l, refl)
       go (look i) = (l, refl)
+      go (query m) = (l, refl)
 
   older : (k : Call) (log : List (ℕ × Request)) → Told s log → Told (call s k .site) log
   older k [] t = tt
@@ -53,12 +53,12 @@ module _ (s : Site) where
   newest (work c) = tt
   newest (read c k) = tt
   newest (look i) = tt
+  newest (query m) = tt
   newest (confirm i n) =
       by-test (accepts s (confirm i n))
       (λ t. let f : Confirmable s i n = confirm-accepted s i n t in
-      let x = find (idIs i) (s .class (classOf s i) .queue) (class-found s i (f .known)) in
-      let is : idOf (x .0) ≡ i = eqb-true _ i (first-passes (idIs i) (s .class (classOf s i) .queue) (x .0) (x .1)) in
-      rw (t, x .1) ((omega (arith, f .next), rw (eq-eqb n (suc (s .confirmations)) (omega (arith, f .next))) (sym is)), tt))
+      let x = find-request i (s .class (classOf s i) .queue) (class-found s i (f .known)) in
+      rw (t, x .1) ((omega (arith, f .next), rw (eq-eqb n (suc (s .confirmations)) (omega (arith, f .next))) (sym (x .2))), tt))
       (λ f. rw f tt)
 
 told : (h : List Call) → Told (after h) (confirmations h)

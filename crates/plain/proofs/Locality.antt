@@ -1,17 +1,17 @@
--- A class depends on itself: work and read on nothing else, offer and confirm on five things more; and a call leaves the other classes. Assumes nothing.
+-- A class depends on itself: work and read on nothing else, offer and confirm on five things more, query on three; and a call leaves the other classes. Assumes nothing.
 use Prim.Native.Nat.{ℕ, zero, suc, _+_, _<_, _≤_}
 use native.Mathlib.Omega.{arith}
-use mathlib.Core.Path.{_≡_, refl, sym, _∙_}
+use mathlib.Core.Path.{_≡_, refl, sym, ap, _∙_}
 use mathlib.Core.Bool.{Bool, true, false, cond, not}
 use mathlib.Core.List.{List}
 use lib.Dec.{eqb}
 use borrow.Author.Tests.{eqb-true, eqb-false, eq-eqb, ne-eqb, lt-ltb}
 use Rattle.plain.specs.Record.{requestIn}
 use Rattle.plain.specs.Queue.{slotIs, has}
-use Rattle.plain.specs.Site.{Site, Call, offer, work, confirm, read, look, call, act, accepts, refusal}
-use Rattle.plain.specs.Site.{lowest, standing, classOf, isQueued, isFree, freeSlot, numberQueued}
+use Rattle.plain.specs.Site.{Site, Call, offer, work, confirm, read, look, query, call, act, accepts, refusal}
+use Rattle.plain.specs.Site.{lowest, standing, classOf, isQueued, isFree, freeSlot, numberQueued, isOpen, freePlace, named}
 use Rattle.plain.specs.Sound.{SoundSite}
-use Rattle.plain.specs.Demands.{Shares, ActAlike, home}
+use Rattle.plain.specs.Demands.{Shares, SharesQueries, ActAlike, For}
 use Rattle.plain.proofs.Tests.{by-test}
 use Rattle.plain.proofs.Sums.{sum-same}
 use Rattle.plain.proofs.Sites.{class-is, slots-queued, confirm-accepted}
@@ -106,14 +106,32 @@ module _ (s t : Site) (c : ℕ) (h : Shares s t c) where
         same : isQueued s i ≡ true → (act s (confirm i n) .answer ≡ act t (confirm i n) .answer) × (act s (confirm i n) .site .class c ≡ act t (confirm i n) .site .class c)
         same q = let f = found-here q in (rw (f .0, f .1, h .class), rw (f .0, f .1, h .class, eq-eqb c c refl))
 
+-- QUERY. The lowest free place
+module _ (s t : Site) (c : ℕ) (h : SharesQueries s t c) where
+  same-place : freePlace s ≡ freePlace t
+  unfolding freePlace
+  same-place = lowest-same (λ p. not (isOpen s p)) (λ p. not (isOpen t p)) 1 8 (λ p l m. ap not (h .places p l (omega arith)))
+
+  query-refusal : (m : ℕ) → refusal s (query m) ≡ refusal t (query m)
+  unfolding refusal
+  query-refusal m = rw (same-place, h .queries)
+
+  pub query-local : (m : ℕ) → ActAlike s t c (query m)
+  unfolding call act
+  query-local m =
+      by-test (accepts t (query m))
+      (λ y. record { answer = rw (query-refusal m, y, same-place); class = rw (query-refusal m, y, same-place, h .next, h .class) })
+      (λ f. record { answer = rw (query-refusal m, f); class = rw (query-refusal m, f) (h .class) })
+
 -- THE OTHER CLASSES are left as they are
-pub others-left : (s : Site) (k : Call) (d : ℕ) → (d ≡ home s k → ⊥) → call s k .site .class d ≡ s .class d
+pub others-left : (s : Site) (k : Call) (d : ℕ) → (For s k d → ⊥) → call s k .site .class d ≡ s .class d
 unfolding call act
 others-left s k d n = by-test (accepts s k) (λ t. rw t (go k n)) (λ f. rw f)
   where
-    go : (k : Call) → (d ≡ home s k → ⊥) → act s k .site .class d ≡ s .class d
+    go : (k : Call) → (For s k d → ⊥) → act s k .site .class d ≡ s .class d
     go (offer b) n = rw (ne-eqb d (requestIn b .class) n)
     go (work c) n = rw (ne-eqb d c n)
     go (confirm i m) n = rw (ne-eqb d (classOf s i) n)
     go (read c k) n = refl
     go (look i) n = refl
+    go (query m) n = by-test (named m d) (λ t. absurd (n t)) (λ f. rw f)

@@ -8,10 +8,10 @@ use lib.Dec.{eqb}
 use borrow.Author.Tests.{eqb-true, eqb-false, eq-eqb, ne-eqb}
 use Rattle.plain.specs.Ops.{Request, runAll}
 use Rattle.plain.specs.Record.{requestIn}
-use Rattle.plain.specs.Queue.{Item, idIs, asks, asked, firstOf, entryOf, confirmedPart}
-use Rattle.plain.specs.Steps.{Class, Did, Answer, committed, ending, workStep, offerStep, confirmStep}
-use Rattle.plain.specs.Site.{Site, Call, offer, work, confirm, read, look, call, act, accepts, classOf}
-use Rattle.plain.specs.Site.{inClass, entryAt, confirmedAt, commitOf, freeSlot}
+use Rattle.plain.specs.Queue.{Item, booking, reading, idIs, asks, asked, firstOf, entryOf, confirmedPart}
+use Rattle.plain.specs.Steps.{Class, Did, Answer, committed, ending, workStep, offerStep, confirmStep, queryStep}
+use Rattle.plain.specs.Site.{Site, Call, offer, work, confirm, read, look, query, call, act, accepts, classOf}
+use Rattle.plain.specs.Site.{inClass, entryAt, confirmedAt, commitOf, freeSlot, freePlace, named}
 use Rattle.plain.specs.Sound.{Belongs, SoundSite}
 use Rattle.plain.specs.History.{requestOf, under, confirmedBy, committedBy, ofClass, requests}
 use Rattle.plain.proofs.Tests.{by-test}
@@ -19,8 +19,8 @@ use Rattle.plain.proofs.Items.{Alike, ending-committed}
 use Rattle.plain.proofs.Queues.{asked-append, all-first, first-passes, first-any}
 use Rattle.plain.proofs.Steps.{Works, unconcerned, one-done, last-done}
 use Rattle.plain.proofs.Confirming.{Confirms, at-once, later}
-use Rattle.plain.proofs.Sites.{at-other, class-is, work-accepted, confirm-accepted}
-use Rattle.plain.proofs.Accepted.{id-lasts, work-both, confirm-both, offer-both}
+use Rattle.plain.proofs.Sites.{at-other, class-is, work-accepted, confirm-accepted, named-below}
+use Rattle.plain.proofs.Accepted.{id-lasts, work-both, confirm-both, offer-both, query-both}
 
 -- the confirmed part with one more
 part-more : (k k′ : Class) (x : Item) → confirmedPart (k′ .queue) ≡ confirmedPart (k .queue) ++ (x ∷ [])
@@ -43,16 +43,16 @@ same-part : (k k′ : Class) → confirmedPart (k′ .queue) ≡ confirmedPart (
 unfolding runAll
 same-part k k′ p c = record { log = append-nil _ ∙ ap asked (sym p); cells = c }
 
--- the head x, which is y but for the work done, has ended
-abbrev pub Ended : Class → Answer → Item → Item → Type 0
-Ended k a x y = ((f : Item → Bool) → f x ≡ true → firstOf f (k .queue) ≡ some x) × Alike x y × (a ≡ ending y)
+-- the head x, which is y but for the work done, has ended, leaving the cells v
+abbrev pub Ended : Class → Answer → List ℕ → Item → Item → Type 0
+Ended k a v x y = ((f : Item → Bool) → f x ≡ true → firstOf f (k .queue) ≡ some x) × Alike x y × (a ≡ ending y v)
 
-worked-off : (k : Class) (d : Did) (cm : List Request) → (commitOf (d .answer) ≡ none → cm ≡ []) → ((x y : Item) → Ended k (d .answer) x y → cm ≡ asks x)
+worked-off : (k : Class) (d : Did) (cm : List Request) → (commitOf (d .answer) ≡ none → cm ≡ []) → ((x y : Item) → Ended k (d .answer) (d .class .committed) x y → cm ≡ asks x)
     → Works k d → Moves k (d .class) [] cm
 unfolding runAll
-worked-off k d cm z o (unconcerned p p′ c a t) = rw (z a) (same-part k (d .class) (p′ ∙ sym p) c)
+worked-off k d cm z o (unconcerned p p′ c a t) = rw (z (a .0)) (same-part k (d .class) (p′ ∙ sym p) c)
 worked-off k d cm z o (one-done x y rest p p′ al l c a t) =
-    rw (z a) (record { log = append-nil _ ∙ ap asked p ∙ ap (λ (l : List Request). l ++ asked rest) (sym (al .asks-same)) ∙ sym (ap asked p′); cells = c })
+    rw (z (a .0)) (record { log = append-nil _ ∙ ap asked p ∙ ap (λ (l : List Request). l ++ asked rest) (sym (al .asks-same)) ∙ sym (ap asked p′); cells = c })
 worked-off k d cm z o (last-done x y rest p p′ al en l c a t) =
     rw (o x y (en, al, a)) (record { log = rw (append-nil, p, p′); cells = c })
 
@@ -68,10 +68,12 @@ confirmed-off i n k d cf cm f z o (later x y back en m e p c a t) =
 
 -- of one request, those of a class
 mine : (c : ℕ) (x : Item) → Belongs c x → ofClass c (asks x) ≡ asks x
-mine c e b = rw (eq-eqb (e .request .class) c (b .class))
+mine c (booking e) b = rw (eq-eqb (e .request .class) c (b .class))
+mine c (reading p n) b = refl
 
 others : (c d : ℕ) (x : Item) → Belongs c x → (d ≡ c → ⊥) → ofClass d (asks x) ≡ []
-others c d e b n = rw (ne-eqb (e .request .class) d (λ p. n (sym p ∙ b .class)))
+others c d (booking e) b n = rw (ne-eqb (e .request .class) d (λ p. n (sym p ∙ b .class)))
+others c d (reading p m) b n = refl
 
 pub nothing-committed : (s : Site) (a : Answer) → commitOf a ≡ none → committedBy s a ≡ []
 unfolding committedBy
@@ -103,9 +105,9 @@ module _ (s : Site) (w : SoundSite s) where
       (λ t. let n : d ≡ c → ⊥ = eqb-false d c t in rw (at-other c (x .class) (s .class) d n, g n .0, g n .1) (still (s .class d)))
 
   -- an end's answer names one request of its class
-  pub ended-is : (c : ℕ) (x y : Item) (a : Answer) → c < 16 → Ended (s .class c) a x y → (committedBy s a ≡ asks x) × Belongs c x
-  ended-is c x y a l e = (
-    rw (e .2) (ending-committed s y (λ i h. found c i x l (e .0 (idIs i) (sym (e .1 .tests (idIs i) (id-lasts i)) ∙ h)) ∙ sym (e .1 .asks-same)) ∙ e .1 .asks-same),
+  pub ended-is : (c : ℕ) (x y : Item) (a : Answer) (v : List ℕ) → c < 16 → Ended (s .class c) a v x y → (committedBy s a ≡ asks x) × Belongs c x
+  ended-is c x y a v l e = (
+    rw (e .2) (ending-committed s y v (λ i h. found c i x l (e .0 (idIs i) (sym (e .1 .tests (idIs i) (id-lasts i)) ∙ h)) ∙ sym (e .1 .asks-same)) ∙ e .1 .asks-same),
     all-first (Belongs c) (λ z. true) (s .class c .queue) x (e .0 (λ z. true) refl) (w .each c l .belong),
   )
 
@@ -113,7 +115,7 @@ module _ (s : Site) (w : SoundSite s) where
   unfolding act confirmedBy
   work-moves c d a =
       in-class c d none x (work c)
-      (λ p. worked-off (s .class c) x _ (λ z. rw (nothing-committed s _ z)) (λ y y′ e. let f = ended-is c y y′ _ l e in rw (f .0) (mine c y (f .1))) (work-both s w c a .1))
+      (λ p. worked-off (s .class c) x _ (λ z. rw (nothing-committed s _ z)) (λ y y′ e. let f = ended-is c y y′ _ _ l e in rw (f .0) (mine c y (f .1))) (work-both s w c a .1))
       (λ n. (refl, go n (work-both s w c a .1)))
     where
       x : Did
@@ -123,10 +125,10 @@ module _ (s : Site) (w : SoundSite s) where
       l = work-accepted s c a .0
 
       go : (d ≡ c → ⊥) → Works (s .class c) x → cm (x .answer) d ≡ []
-      go n (unconcerned p p′ y z t) = rw (nothing-committed s _ z)
-      go n (one-done y y′ rest p p′ al m v z t) = rw (nothing-committed s _ z)
+      go n (unconcerned p p′ y z t) = rw (nothing-committed s _ (z .0))
+      go n (one-done y y′ rest p p′ al m v z t) = rw (nothing-committed s _ (z .0))
       go n (last-done y y′ rest p p′ al en m v an t) =
-          let f = ended-is c y y′ (x .answer) l (en, al, an) in rw (f .0) (others c d y (f .1) n)
+          let f = ended-is c y y′ (x .answer) (x .class .committed) l (en, al, an) in rw (f .0) (others c d y (f .1) n)
 
   confirm-moves : (i n d : ℕ) → accepts s (confirm i n) ≡ true
       → Moves (s .class d) (act s (confirm i n) .site .class d) (cf (confirm i n) d) (cm (act s (confirm i n) .answer) d)
@@ -181,6 +183,11 @@ module _ (s : Site) (w : SoundSite s) where
   act-moves (read c k) d a = still (s .class d)
   act-moves (look i) d a =
       by-test (confirmedAt (entryAt s i)) (λ t. rw t (still (s .class d))) (λ f. rw f (still (s .class d)))
+  act-moves (query m) d a =
+      by-test (named m d)
+      (λ t. let j = query-both s w m d a (named-below m d t) in
+      rw t (record { log = sym (part-more (s .class d) (queryStep (freePlace s) (s .confirmations) (s .class d)) (reading (freePlace s) (s .confirmations)) (j .part)); cells = unfold runAll in (j .cells) }))
+      (λ f. rw f (still (s .class d)))
 
   refused-moves : (k : Call) (d : ℕ) → accepts s k ≡ false → cf k d ≡ []
   unfolding confirmedBy
@@ -189,6 +196,7 @@ module _ (s : Site) (w : SoundSite s) where
   refused-moves (confirm i n) d a = rw a
   refused-moves (read c k) d a = refl
   refused-moves (look i) d a = refl
+  refused-moves (query m) d a = refl
 
   pub call-moves : (k : Call) (d : ℕ) → Moves (s .class d) (call s k .site .class d) (cf k d) (cm (call s k .answer) d)
   unfolding call committedBy

@@ -1,5 +1,5 @@
--- From a fresh site, the count of a queued request is how many accepted confirmations put it back since its offer, and look and its commit
--- answer it.
+-- From a fresh site, the count of a queued request is how many accepted confirmations and queries put it back since its offer, and look and its
+-- commit answer it.
 -- Assumes nothing.
 use Prim.Native.Nat.{ℕ, suc, _<_, _≤_}
 use native.Mathlib.Omega.{arith}
@@ -9,123 +9,154 @@ use mathlib.Core.Logic.{inl, inr}
 use mathlib.Core.List.{List, [], _∷_}
 use mathlib.Core.Option.{Option, none, some}
 use lib.Dec.{eqb}
-use borrow.Author.Tests.{eqb-true, eqb-false, eq-eqb, ne-eqb}
+use borrow.Author.Tests.{eqb-false, eq-eqb, ne-eqb}
 use Rattle.plain.specs.Record.{requestIn}
-use Rattle.plain.specs.Queue.{Item, idOf, isExecuted, idIs, isConfirmed, any, count, has, owed}
+use Rattle.plain.specs.Queue.{Entry, Item, booking, reading, idOf, isExecuted, idIs, isConfirmed, any, count, has, owed}
 use Rattle.plain.specs.Steps.{Class, Did, Answer, refused, committed, toDo, unconfirmed, newEntry, tried, advanced, workOn, workStep, offerStep}
-use Rattle.plain.specs.Steps.{backed, confirmOn, confirmStep}
-use Rattle.plain.specs.Site.{Site, Call, offer, work, confirm, read, look, fresh, call, act, accepts, classOf, freeSlot, inClass}
-use Rattle.plain.specs.Site.{standing, entryAt, confirmedAt, commitsBy}
-use Rattle.plain.specs.Sound.{All, Belongs, SoundSite}
-use Rattle.plain.specs.History.{after, countBack, putBacks}
+use Rattle.plain.specs.Steps.{begun, ending, numbered, backed, backId, confirmOn, confirmStep, queryOn, queryStep}
+use Rattle.plain.specs.Site.{Site, Call, offer, work, confirm, read, look, query, fresh, call, act, accepts, classOf, freeSlot, inClass}
+use Rattle.plain.specs.Site.{standing, entryAt, confirmedAt, commitsBy, named, freePlace, begins}
+use Rattle.plain.specs.Sound.{All, OfRequest, Belongs, SoundSite}
+use Rattle.plain.specs.History.{after, maskOf, headBack, backBy, countBack, putBacks}
 use Rattle.plain.specs.Demands.{Shows, CountedBack}
-use Rattle.plain.proofs.Tests.{by-test, or-left}
+use Rattle.plain.proofs.Tests.{by-test, no, or-left}
 use Rattle.plain.proofs.Sums.{sum-term}
 use Rattle.plain.proofs.Items.{is-valid}
-use Rattle.plain.proofs.Queues.{all-append, all-map, all-first, find, first-passes, none-passes, count-some}
-use Rattle.plain.proofs.Sites.{one-class, standing-some, class-found, not-queued}
+use Rattle.plain.proofs.Queues.{all-append, all-before, all-requests, each-request, all-first, find-request, none-passes, count-some}
+use Rattle.plain.proofs.Sites.{one-class, standing-some, class-found, class-is, not-queued}
 use Rattle.plain.proofs.Sites.{work-accepted, offer-accepted, confirm-accepted, look-accepted}
-use Rattle.plain.proofs.Backs.{work-all, moved-all}
+use Rattle.plain.proofs.Backs.{work-all, moved-all, query-all}
 use Rattle.plain.proofs.Demand2.{after-sound}
 
--- two facts of every one of a queue, a third
-both : (P Q R : Item → Type 0) → ((x : Item) → P x → Q x → R x) → (q : List Item) → All P q → All Q q → All R q
-both P Q R f [] h g = tt
-both P Q R f (x ∷ q) h g = (f x (h .0) (g .0), both P Q R f q (h .1) (g .1))
-
 -- IDS of a sound site: each of a queue is there, none is 0, and none is that of another
-there : (q : List Item) → All (λ e. has (idOf e) q ≡ true) q
-there [] = tt
-there (x ∷ q) = (rw (eq-eqb (idOf x) (idOf x) refl), all-map _ _ (λ e h. behind e h) q (there q))
+there : (q : List Item) → All (OfRequest (λ e. has (idOf e) q ≡ true)) q
+there q = go q q (λ e h. h)
   where
-    behind : (e : Item) → has (idOf e) q ≡ true → has (idOf e) (x ∷ q) ≡ true
-    behind e h = by-test (idIs (idOf e) x) (λ t. rw t) (λ f. rw f h)
+    go : (p q : List Item) → ((e : Entry) → has (idOf e) q ≡ true → has (idOf e) p ≡ true) → All (OfRequest (λ e. has (idOf e) p ≡ true)) q
+    go p [] f = tt
+    go p (booking x ∷ q) f =
+        (f x (rw (eq-eqb (idOf x) (idOf x) refl)), go p q (λ e h. f e (by-test (idIs (idOf e) (booking x)) (λ t. rw t) (λ g. rw g h))))
+    go p (reading n b ∷ q) f = (tt, go p q f)
 
-none-zero : (c : ℕ) (q : List Item) → All (Belongs c) q → All (λ e. idIs 0 e ≡ false) q
-none-zero c q b = all-map (Belongs c) (λ e. idIs 0 e ≡ false) (λ e h. ne-eqb (idOf e) 0 (is-valid (e .request) (h .valid) .id)) q b
+pub none-zero : (c : ℕ) (q : List Item) → All (Belongs c) q → All (OfRequest (λ e. eqb (idOf e) 0 ≡ false)) q
+none-zero c q b =
+    each-request (Belongs c) (λ e. eqb (idOf e) 0 ≡ false) (λ e h. ne-eqb (idOf e) 0 (is-valid (e .request) (h .valid) .id)) q b
 
-head-alone : (x : Item) (rest : List Item) → count (idIs (idOf x)) (x ∷ rest) ≤ 1 → All (λ e. idIs (idOf x) e ≡ false) rest
+head-alone : (x : Entry) (rest : List Item) → count (idIs (idOf x)) (booking x ∷ rest) ≤ 1 → All (OfRequest (λ e. eqb (idOf e) (idOf x) ≡ false)) rest
 head-alone x rest u =
-    none-passes (idIs (idOf x)) rest (by-test (any (idIs (idOf x)) rest)
+    each-request (λ e. idIs (idOf x) e ≡ false) (λ e. eqb (idOf e) (idOf x) ≡ false) (λ e h. h) rest
+    (none-passes (idIs (idOf x)) rest (by-test (any (idIs (idOf x)) rest)
     (λ t. let u′ = rw (eq-eqb (idOf x) (idOf x) refl) at u in absurd (omega (arith, count-some (idIs (idOf x)) rest t)))
-    (λ f. f))
+    (λ f. f)))
 
 -- ANSWERS. Work's count nothing, and a confirmation's none that is not queued in its class
-work-silent : (k : Class) (j m : ℕ) → countBack j (workStep k .answer) m ≡ m
-unfolding workStep
-work-silent k j m = go (k .queue)
-  where
-    go : (q : List Item) → countBack j (workOn q (k .committed) (k .working) .answer) m ≡ m
-    go [] = refl
-    go (e ∷ rest) =
-        by-test (isExecuted (advanced e (tried e (k .working))))
-        (λ x. by-test (isConfirmed e) (λ t. rw (x, t)) (λ g. rw (x, g)))
-        (λ x. rw x)
+module _ (s : Site) (mask : ℕ) where
+  work-silent : (k : Class) (j m : ℕ) → countBack j s mask (workStep k .answer) m ≡ m
+  unfolding workStep
+  work-silent k j m = go (k .queue)
+    where
+      go : (q : List Item) → countBack j s mask (workOn q (k .committed) (k .working) .answer) m ≡ m
+      go [] = refl
+      go (reading p b ∷ rest) = refl
+      go (booking e ∷ rest) =
+          by-test (isExecuted (booking (advanced e (tried e (k .working)))))
+          (λ x. by-test (isConfirmed (booking e)) (λ t. rw (x, t)) (λ g. rw (x, g)))
+          (λ x. rw x)
 
-confirm-silent : (i n : ℕ) (k : Class) (j m : ℕ) → eqb j 0 ≡ false → has j (k .queue) ≡ false → countBack j (confirmStep i n k .answer) m ≡ m
-unfolding confirmStep
-confirm-silent i n k j m z a = go (k .queue) a
-  where
-    go : (q : List Item) → has j q ≡ false → countBack j (confirmOn i n q (k .committed) (k .working) .answer) m ≡ m
-    go [] a = rw z
-    go (x ∷ rest) a =
-        let ne : eqb j (idOf x) ≡ false = ne-eqb j (idOf x) (λ p. eqb-false (idOf x) j (or-left (idIs j x) (has j rest) a) (sym p)) in
-        by-test (idIs i x)
-        (λ y. by-test (isExecuted x) (λ e. rw (y, e)) (λ e. rw (y, e, z)))
-        (λ y. rw y (by-test (isConfirmed x) (λ t. rw (t, z)) (λ g. rw (g, ne))))
+  confirm-silent : (i n : ℕ) (k : Class) (j m : ℕ) → eqb j 0 ≡ false → has j (k .queue) ≡ false → countBack j s mask (confirmStep i n k .answer) m ≡ m
+  unfolding confirmStep
+  confirm-silent i n k j m z a = go (k .queue) a
+    where
+      go : (q : List Item) → has j q ≡ false → countBack j s mask (confirmOn i n q (k .committed) (k .working) .answer) m ≡ m
+      go [] a = rw z
+      go (reading p b ∷ rest) a = rw z
+      go (booking x ∷ rest) a =
+          let ne : eqb j (idOf x) ≡ false = ne-eqb j (idOf x) (λ p. eqb-false (idOf x) j (or-left (idIs j (booking x)) (has j rest) a) (sym p)) in
+          by-test (idIs i (booking x))
+          (λ y. by-test (isExecuted (booking x)) (λ e. rw (y, e)) (λ e. rw (y, e, z)))
+          (λ y. rw y (by-test (isConfirmed (booking x)) (λ t. rw (t, z)) (λ g. rw (g, ne))))
 
 -- BY AN ANSWER. With f for what was counted before it
 module _ (f : ℕ → ℕ) where
-  abbrev Before : Item → Type 0
+  abbrev Before : Entry → Type 0
   Before e = e .backs ≡ f (idOf e)
 
-  abbrev Now : Answer → Item → Type 0
-  Now a e = e .backs ≡ countBack (idOf e) a (f (idOf e))
+  -- what a step puts back under the id b, one more
+  abbrev Back : ℕ → Entry → Type 0
+  Back b e = e .backs ≡ cond (eqb (idOf e) b) (suc (f (idOf e))) (f (idOf e))
 
-  -- an answer that counts none of them
-  unchanged : (a : Answer) (q : List Item) → All (λ e. countBack (idOf e) a (f (idOf e)) ≡ f (idOf e)) q → All Before q → All (Now a) q
-  unchanged a = both (λ e. countBack (idOf e) a (f (idOf e)) ≡ f (idOf e)) Before (Now a) (λ e g p. p ∙ sym g)
+  -- what does not name one of the queue leaves it
+  unnamed : (b : ℕ) (q : List Item) → All (OfRequest (λ e. eqb (idOf e) b ≡ false)) q → All (OfRequest Before) q → All (OfRequest (Back b)) q
+  unnamed b = all-requests (λ e. eqb (idOf e) b ≡ false) Before (Back b) (λ e g p. rw g p)
 
-  -- a confirmation counts the head that it puts back, and no other of the class
-  confirm-now : (i n : ℕ) (k : Class) → All (λ e. idIs 0 e ≡ false) (k .queue) → ((j : ℕ) → count (idIs j) (k .queue) ≤ 1) → All Before (k .queue)
-      → All (Now (confirmStep i n k .answer)) (confirmStep i n k .class .queue)
-  unfolding confirmStep
-  confirm-now i n k z u h = go (k .queue) z u h
+  -- the head that is put back, if it waits, and no other of the class
+  head-back : (x : Item) (rest : List Item) → All (OfRequest (λ e. eqb (idOf e) 0 ≡ false)) (x ∷ rest) → ((j : ℕ) → count (idIs j) (x ∷ rest) ≤ 1)
+      → All (OfRequest Before) (x ∷ rest) → All (OfRequest (Back (backId x))) (backed x ∷ rest)
+  head-back (reading p b) rest z u h = unnamed 0 (reading p b ∷ rest) z h
+  head-back (booking x) rest z u h =
+      by-test (isConfirmed (booking x))
+      (λ t. rw t (unnamed 0 (booking x ∷ rest) z h))
+      (λ g. rw g (rw (eq-eqb (idOf x) (idOf x) refl) (ap suc (h .0)), unnamed (idOf x) rest (head-alone x rest (u (idOf x))) (h .1)))
+
+  module _ (s : Site) (mask : ℕ) where
+    abbrev Now : Answer → Entry → Type 0
+    Now a e = e .backs ≡ countBack (idOf e) s mask a (f (idOf e))
+
+    -- an answer that counts none of them
+    unchanged : (a : Answer) (q : List Item) → All (OfRequest (λ e. countBack (idOf e) s mask a (f (idOf e)) ≡ f (idOf e))) q → All (OfRequest Before) q
+        → All (OfRequest (Now a)) q
+    unchanged a = all-requests (λ e. countBack (idOf e) s mask a (f (idOf e)) ≡ f (idOf e)) Before (Now a) (λ e g p. p ∙ sym g)
+
+    -- a confirmation counts the head that it puts back, and no other of the class
+    confirm-now : (i n : ℕ) (k : Class) → All (OfRequest (λ e. eqb (idOf e) 0 ≡ false)) (k .queue) → ((j : ℕ) → count (idIs j) (k .queue) ≤ 1)
+        → All (OfRequest Before) (k .queue) → All (OfRequest (Now (confirmStep i n k .answer))) (confirmStep i n k .class .queue)
+    unfolding confirmStep
+    confirm-now i n k z u h = go (k .queue) z u h
+      where
+        go : (q : List Item) → All (OfRequest (λ e. eqb (idOf e) 0 ≡ false)) q → ((j : ℕ) → count (idIs j) q ≤ 1) → All (OfRequest Before) q
+            → All (OfRequest (Now (confirmOn i n q (k .committed) (k .working) .answer))) (confirmOn i n q (k .committed) (k .working) .class .queue)
+        go [] z u h = tt
+        go (x ∷ rest) z u h =
+            by-test (idIs i x)
+            (λ y. by-test (isExecuted x)
+            (λ e. rw (y, e) (ended x rest (h .1) y))
+            (λ e. rw (y, e) (moved-all (OfRequest (Back 0)) i n (λ e b. b) (x ∷ rest) (unnamed 0 (x ∷ rest) z h))))
+            (λ y. rw y (moved-all (OfRequest (Back (backId x))) i n (λ e b. b) (backed x ∷ rest) (head-back x rest z u h)))
+          where
+            ended : (x : Item) (rest : List Item) → All (OfRequest Before) rest → idIs i x ≡ true
+                → All (OfRequest (Now (ending (numbered n x) (k .working)))) rest
+            ended (booking x) rest h y = h
+            ended (reading p b) rest h y = no _ y refl
+
+  -- and so does a query
+  query-back : (p n : ℕ) (k : Class) → All (OfRequest (λ e. eqb (idOf e) 0 ≡ false)) (k .queue) → ((j : ℕ) → count (idIs j) (k .queue) ≤ 1)
+      → All (OfRequest Before) (k .queue) → All (OfRequest (Back (headBack (k .queue)))) (queryStep p n k .queue)
+  unfolding queryStep
+  query-back p n k z u h = go (k .queue) z u h
     where
-      -- what does not name one of the queue leaves it
-      unnamed : (b : ℕ) (q : List Item) → All (λ e. idIs b e ≡ false) q → All Before q
-          → All (λ e. e .backs ≡ cond (eqb (idOf e) b) (suc (f (idOf e))) (f (idOf e))) q
-      unnamed b = both (λ e. idIs b e ≡ false) Before (λ e. e .backs ≡ cond (eqb (idOf e) b) (suc (f (idOf e))) (f (idOf e))) (λ e g p. rw g p)
-
-      go : (q : List Item) → All (λ e. idIs 0 e ≡ false) q → ((j : ℕ) → count (idIs j) q ≤ 1) → All Before q
-          → All (Now (confirmOn i n q (k .committed) (k .working) .answer)) (confirmOn i n q (k .committed) (k .working) .class .queue)
-      go [] z u h = tt
-      go (x ∷ rest) z u h =
-          by-test (idIs i x)
-          (λ y. by-test (isExecuted x)
-          (λ e. rw (y, e) (h .1))
-          (λ e. rw (y, e) (moved-all _ i n (λ e b. b) (x ∷ rest) (unnamed 0 (x ∷ rest) z h))))
-          (λ y. rw y (moved-all _ i n (λ e b. b) (backed x ∷ rest) (by-test (isConfirmed x)
-          (λ t. rw t (unnamed 0 (x ∷ rest) z h))
-          (λ g. rw g (rw (eq-eqb (idOf x) (idOf x) refl) (ap suc (h .0)), unnamed (idOf x) rest (head-alone x rest (u (idOf x))) (h .1))))))
+      go : (q : List Item) → All (OfRequest (λ e. eqb (idOf e) 0 ≡ false)) q → ((j : ℕ) → count (idIs j) q ≤ 1) → All (OfRequest Before) q
+          → All (OfRequest (Back (headBack q))) (queryOn (reading p n) q (k .committed) (k .working) .queue)
+      go [] z u h = (tt, tt)
+      go (x ∷ rest) z u h = all-before (OfRequest (Back (backId x))) (reading p n) (backed x ∷ rest) tt (head-back x rest z u h)
 
 -- ON A SITE: a call's answer counts what the call did
 abbrev Counted : (ℕ → ℕ) → Site → Type 0
-Counted f s = (c : ℕ) → c < 16 → All (λ e. e .backs ≡ f (idOf e)) (s .class c .queue)
+Counted f s = (c : ℕ) → c < 16 → All (OfRequest (λ e. e .backs ≡ f (idOf e))) (s .class c .queue)
 
 module _ (f : ℕ → ℕ) (s : Site) (w : SoundSite s) (h : Counted f s) where
-  abbrev after-answer : Answer → ℕ → ℕ
-  after-answer a i = countBack i a (f i)
+  abbrev after-answer : Call → Answer → ℕ → ℕ
+  after-answer k a i = countBack i s (maskOf k) a (f i)
 
   -- a step in one class, if its answer names none of the others
-  step-counted : (c : ℕ) (new : Option ℕ) (d : Did) → c < 16 → All (Now f (d .answer)) (d .class .queue)
-      → ((e : ℕ) → e < 16 → (e ≡ c → ⊥) → All (Now f (d .answer)) (s .class e .queue)) → Counted (after-answer (d .answer)) (inClass s c new d .site)
-  step-counted c new d l g o e m = by-test (eqb e c) (λ t. rw t g) (λ n. rw n (o e m (eqb-false e c n)))
+  step-counted : (k : Call) (c : ℕ) (new : Option ℕ) (d : Did) → c < 16 → All (OfRequest (Now f s (maskOf k) (d .answer))) (d .class .queue)
+      → ((e : ℕ) → e < 16 → (e ≡ c → ⊥) → All (OfRequest (Now f s (maskOf k) (d .answer))) (s .class e .queue))
+      → Counted (after-answer k (d .answer)) (inClass s c new d .site)
+  step-counted k c new d l g o e m = by-test (eqb e c) (λ t. rw t g) (λ n. rw n (o e m (eqb-false e c n)))
 
   -- the ids of other classes are not queued in this one
-  apart : (c : ℕ) → c < 16 → (e : ℕ) → e < 16 → (e ≡ c → ⊥) → All (λ x. has (idOf x) (s .class c .queue) ≡ false) (s .class e .queue)
+  apart : (c : ℕ) → c < 16 → (e : ℕ) → e < 16 → (e ≡ c → ⊥) → All (OfRequest (λ x. has (idOf x) (s .class c .queue) ≡ false)) (s .class e .queue)
   apart c l e m n =
-      all-map (λ x. has (idOf x) (s .class e .queue) ≡ true) (λ x. has (idOf x) (s .class c .queue) ≡ false)
+      each-request (OfRequest (λ x. has (idOf x) (s .class e .queue) ≡ true)) (λ x. has (idOf x) (s .class c .queue) ≡ false)
       (λ x t. by-test (has (idOf x) (s .class c .queue)) (λ y. absurd (n (one-class (idIs (idOf x)) s (w .ids (idOf x)) e c m l t y))) (λ g. g))
       (s .class e .queue) (there (s .class e .queue))
 
@@ -133,21 +164,25 @@ module _ (f : ℕ → ℕ) (s : Site) (w : SoundSite s) (h : Counted f s) where
   unfolding standing
   once c l j = omega (arith, w .ids j, sum-term (λ c. count (idIs j) (s .class c .queue)) 16 c l)
 
+  zero : (e : ℕ) → e < 16 → All (OfRequest (λ x. eqb (idOf x) 0 ≡ false)) (s .class e .queue)
+  zero e m = none-zero e (s .class e .queue) (w .each e m .belong)
+
   -- nothing of the site has the id that an accepted offer brings
-  new-id : (b : List ℕ) → accepts s (offer b) ≡ true → (c : ℕ) → c < 16 → All (λ e. idIs (requestIn b .id) e ≡ false) (s .class c .queue)
+  new-id : (b : List ℕ) → accepts s (offer b) ≡ true → (c : ℕ) → c < 16 → All (OfRequest (λ e. eqb (idOf e) (requestIn b .id) ≡ false)) (s .class c .queue)
   new-id b a c l =
-      none-passes (idIs i) (s .class c .queue) (by-test (any (idIs i) (s .class c .queue))
+      each-request (λ e. idIs i e ≡ false) (λ e. eqb (idOf e) i ≡ false) (λ e h. h) (s .class c .queue)
+      (none-passes (idIs i) (s .class c .queue) (by-test (any (idIs i) (s .class c .queue))
       (λ t. absurd (omega (arith, standing-some (idIs i) s c l t, not-queued s i (offer-accepted s b a .unknown))))
-      (λ g. g))
+      (λ g. g)))
     where
       i : ℕ
       i = requestIn b .id
 
-  offer-counted : (b : List ℕ) → accepts s (offer b) ≡ true → Counted (after-answer (act s (offer b) .answer)) (act s (offer b) .site)
+  offer-counted : (b : List ℕ) → accepts s (offer b) ≡ true → Counted (after-answer (offer b) (act s (offer b) .answer)) (act s (offer b) .site)
   unfolding act offerStep
   offer-counted b a =
-      step-counted c none (offerStep (requestIn b) (freeSlot s) (s .class c)) l
-      (all-append _ (s .class c .queue) (newEntry (requestIn b) (freeSlot s)) new (old c l))
+      step-counted (offer b) c none (offerStep (requestIn b) (freeSlot s) (s .class c)) l
+      (all-append (OfRequest (λ x. x .backs ≡ cond (eqb (idOf x) i) 0 (f (idOf x)))) (s .class c .queue) (booking (newEntry (requestIn b) (freeSlot s))) new (old c l))
       (λ e m n. old e m)
     where
       c : ℕ
@@ -162,17 +197,17 @@ module _ (f : ℕ → ℕ) (s : Site) (w : SoundSite s) (h : Counted f s) where
       new : 0 ≡ cond (eqb i i) 0 (f i)
       new = sym (ap (λ (t : Bool). cond t 0 (f i)) (eq-eqb i i refl))
 
-      old : (e : ℕ) → e < 16 → All (λ x. x .backs ≡ cond (eqb (idOf x) i) 0 (f (idOf x))) (s .class e .queue)
+      old : (e : ℕ) → e < 16 → All (OfRequest (λ x. x .backs ≡ cond (eqb (idOf x) i) 0 (f (idOf x)))) (s .class e .queue)
       old e m =
-          both (λ x. idIs i x ≡ false) (Before f) (λ x. x .backs ≡ cond (eqb (idOf x) i) 0 (f (idOf x))) (λ x g p. rw g p)
+          all-requests (λ x. eqb (idOf x) i ≡ false) (Before f) (λ x. x .backs ≡ cond (eqb (idOf x) i) 0 (f (idOf x))) (λ x g p. rw g p)
           (s .class e .queue) (new-id b a e m) (h e m)
 
-  work-counted : (c : ℕ) → accepts s (work c) ≡ true → Counted (after-answer (act s (work c) .answer)) (act s (work c) .site)
+  work-counted : (c : ℕ) → accepts s (work c) ≡ true → Counted (after-answer (work c) (act s (work c) .answer)) (act s (work c) .site)
   unfolding act
   work-counted c a =
-      step-counted c none d l
-      (all-map (Before f) (Now f (d .answer)) silent (d .class .queue) (work-all (Before f) (λ e t b. b) (s .class c) (h c l)))
-      (λ e m n. all-map (Before f) (Now f (d .answer)) silent (s .class e .queue) (h e m))
+      step-counted (work c) c none d l
+      (each-request (OfRequest (Before f)) (Now f s 0 (d .answer)) silent (d .class .queue) (work-all (OfRequest (Before f)) (λ e t b. b) (s .class c) (h c l)))
+      (λ e m n. each-request (OfRequest (Before f)) (Now f s 0 (d .answer)) silent (s .class e .queue) (h e m))
     where
       l : c < 16
       l = work-accepted s c a .0
@@ -180,14 +215,14 @@ module _ (f : ℕ → ℕ) (s : Site) (w : SoundSite s) (h : Counted f s) where
       d : Did
       d = workStep (s .class c)
 
-      silent : (x : Item) → Before f x → Now f (d .answer) x
-      silent x p = p ∙ sym (work-silent (s .class c) (idOf x) (f (idOf x)))
+      silent : (x : Entry) → Before f x → Now f s 0 (d .answer) x
+      silent x p = p ∙ sym (work-silent s 0 (s .class c) (idOf x) (f (idOf x)))
 
-  confirm-counted : (i n : ℕ) → accepts s (confirm i n) ≡ true → Counted (after-answer (act s (confirm i n) .answer)) (act s (confirm i n) .site)
+  confirm-counted : (i n : ℕ) → accepts s (confirm i n) ≡ true → Counted (after-answer (confirm i n) (act s (confirm i n) .answer)) (act s (confirm i n) .site)
   unfolding act
   confirm-counted i n a =
-      step-counted c (some i) (confirmStep i n k) l (confirm-now f i n k (zero c l) (once c l) (h c l))
-      (λ e m ne. unchanged f (confirmStep i n k .answer) (s .class e .queue) (silent e m ne) (h e m))
+      step-counted (confirm i n) c (some i) (confirmStep i n k) l (confirm-now f s 0 i n k (zero c l) (once c l) (h c l))
+      (λ e m ne. unchanged f s 0 (confirmStep i n k .answer) (s .class e .queue) (silent e m ne) (h e m))
     where
       c : ℕ
       c = classOf s i
@@ -198,50 +233,71 @@ module _ (f : ℕ → ℕ) (s : Site) (w : SoundSite s) (h : Counted f s) where
       k : Class
       k = s .class c
 
-      zero : (e : ℕ) → e < 16 → All (λ x. idIs 0 x ≡ false) (s .class e .queue)
-      zero e m = none-zero e (s .class e .queue) (w .each e m .belong)
-
-      silent : (e : ℕ) → e < 16 → (e ≡ c → ⊥) → All (λ x. countBack (idOf x) (confirmStep i n k .answer) (f (idOf x)) ≡ f (idOf x)) (s .class e .queue)
+      silent : (e : ℕ) → e < 16 → (e ≡ c → ⊥)
+          → All (OfRequest (λ x. countBack (idOf x) s 0 (confirmStep i n k .answer) (f (idOf x)) ≡ f (idOf x))) (s .class e .queue)
       silent e m ne =
-          both (λ x. idIs 0 x ≡ false) (λ x. has (idOf x) (k .queue) ≡ false)
-          (λ x. countBack (idOf x) (confirmStep i n k .answer) (f (idOf x)) ≡ f (idOf x))
-          (λ x z o. confirm-silent i n k (idOf x) (f (idOf x)) z o) (s .class e .queue) (zero e m) (apart c l e m ne)
+          all-requests (λ x. eqb (idOf x) 0 ≡ false) (λ x. has (idOf x) (k .queue) ≡ false)
+          (λ x. countBack (idOf x) s 0 (confirmStep i n k .answer) (f (idOf x)) ≡ f (idOf x))
+          (λ x z o. confirm-silent s 0 i n k (idOf x) (f (idOf x)) z o) (s .class e .queue) (zero e m) (apart c l e m ne)
 
-  call-counted : (k : Call) → Counted (after-answer (call s k .answer)) (call s k .site)
+  -- the requests of a class, and their class
+  mine : (c : ℕ) → c < 16 → All (OfRequest (λ x. classOf s (idOf x) ≡ c)) (s .class c .queue)
+  mine c l =
+      each-request (OfRequest (λ x. has (idOf x) (s .class c .queue) ≡ true)) (λ x. classOf s (idOf x) ≡ c)
+      (λ x t. class-is s (idOf x) c w l t) (s .class c .queue) (there (s .class c .queue))
+
+  query-counted : (m : ℕ) → accepts s (query m) ≡ true → Counted (after-answer (query m) (begun (freePlace s))) (begins s m)
+  unfolding backBy
+  query-counted m a c l =
+      by-test (named m c)
+      (λ t. rw t (all-requests (λ x. classOf s (idOf x) ≡ c) (Back f (headBack q)) (λ x. x .backs ≡ countBack (idOf x) s m (begun (freePlace s)) (f (idOf x)))
+      (λ x is b. rw (is, t) b) (queryStep (freePlace s) (s .confirmations) (s .class c) .queue)
+      (query-all (OfRequest (λ x. classOf s (idOf x) ≡ c)) (λ x p. p) (freePlace s) (s .confirmations) tt (s .class c) (mine c l))
+      (query-back f (freePlace s) (s .confirmations) (s .class c) (zero c l) (once c l) (h c l))))
+      (λ g. rw g (all-requests (λ x. classOf s (idOf x) ≡ c) (Before f) (λ x. x .backs ≡ countBack (idOf x) s m (begun (freePlace s)) (f (idOf x)))
+      (λ x is b. rw (is, g) b) q (mine c l) (h c l)))
+    where
+      q : List Item
+      q = s .class c .queue
+
+  call-counted : (k : Call) → Counted (after-answer k (call s k .answer)) (call s k .site)
   unfolding call act
   call-counted k = by-test (accepts s k) (λ t. rw t (go k t)) (λ g. rw g h)
     where
-      go : (k : Call) → accepts s k ≡ true → Counted (after-answer (act s k .answer)) (act s k .site)
+      go : (k : Call) → accepts s k ≡ true → Counted (after-answer k (act s k .answer)) (act s k .site)
       go (offer b) a = offer-counted b a
       go (work c) a = work-counted c a
       go (confirm i n) a = confirm-counted i n a
       go (read c k) a = h
       go (look i) a = by-test (confirmedAt (entryAt s i)) (λ t. rw t h) (λ g. rw g h)
+      go (query m) a = query-counted m a
 
 -- A COMMIT answers the count with which the request was queued
 module _ (f : ℕ → ℕ) (i n d j b : ℕ) where
-  work-ends : (k : Class) → All (Before f) (k .queue) → workStep k .answer ≡ committed i n d j b → b ≡ f i
+  work-ends : (k : Class) → All (OfRequest (Before f)) (k .queue) → workStep k .answer ≡ committed i n d j b → b ≡ f i
   unfolding workStep
   work-ends k h = go (k .queue) h
     where
-      go : (q : List Item) → All (Before f) q → workOn q (k .committed) (k .working) .answer ≡ committed i n d j b → b ≡ f i
+      go : (q : List Item) → All (OfRequest (Before f)) q → workOn q (k .committed) (k .working) .answer ≡ committed i n d j b → b ≡ f i
       go [] h a = let z : _≡_ {A = ℕ} 0 1 = cc in absurd (omega arith)
-      go (e ∷ rest) h a =
-          by-test (isExecuted (advanced e (tried e (k .working))))
-          (λ x. by-test (isConfirmed e)
+      go (reading p b ∷ rest) h a = let z : _≡_ {A = ℕ} 0 1 = cc in absurd (omega arith)
+      go (booking e ∷ rest) h a =
+          by-test (isExecuted (booking (advanced e (tried e (k .working)))))
+          (λ x. by-test (isConfirmed (booking e))
           (λ t. let p : e .backs ≡ b = cc (rw (x, t) at a) in let q : idOf e ≡ i = cc (rw (x, t) at a) in sym p ∙ h .0 ∙ ap f q)
           (λ t. let z : _≡_ {A = ℕ} 0 1 = cc (rw (x, t) at a) in absurd (omega arith)))
           (λ x. let z : _≡_ {A = ℕ} 0 1 = cc (rw x at a) in absurd (omega arith))
 
-  confirm-ends : (m l : ℕ) (k : Class) → All (Before f) (k .queue) → confirmStep m l k .answer ≡ committed i n d j b → b ≡ f i
+  confirm-ends : (m l : ℕ) (k : Class) → All (OfRequest (Before f)) (k .queue) → confirmStep m l k .answer ≡ committed i n d j b → b ≡ f i
   unfolding confirmStep
   confirm-ends m l k h = go (k .queue) h
     where
-      go : (q : List Item) → All (Before f) q → confirmOn m l q (k .committed) (k .working) .answer ≡ committed i n d j b → b ≡ f i
+      go : (q : List Item) → All (OfRequest (Before f)) q → confirmOn m l q (k .committed) (k .working) .answer ≡ committed i n d j b → b ≡ f i
       go [] h a = let z : _≡_ {A = ℕ} 0 1 = cc in absurd (omega arith)
-      go (x ∷ rest) h a =
-          by-test (idIs m x)
-          (λ y. by-test (isExecuted x)
+      go (reading p b ∷ rest) h a = let z : _≡_ {A = ℕ} 0 1 = cc in absurd (omega arith)
+      go (booking x ∷ rest) h a =
+          by-test (idIs m (booking x))
+          (λ y. by-test (isExecuted (booking x))
           (λ e. let p : x .backs ≡ b = cc (rw (y, e) at a) in let q : idOf x ≡ i = cc (rw (y, e) at a) in sym p ∙ h .0 ∙ ap f q)
           (λ e. let z : _≡_ {A = ℕ} 0 1 = cc (rw (y, e) at a) in absurd (omega arith)))
           (λ y. let z : _≡_ {A = ℕ} 0 1 = cc (rw y at a) in absurd (omega arith))
@@ -262,6 +318,7 @@ module _ (f : ℕ → ℕ) (i n d j b : ℕ) where
       go (confirm m l) a e = confirm-ends m l (s .class (classOf s m)) (h (classOf s m) (confirm-accepted s m l a .known)) e
       go (read c x) a e = other _ refl e
       go (look m) a e = by-test (confirmedAt (entryAt s m)) (λ t. other _ refl (rw t at e)) (λ g. other _ refl (rw g at e))
+      go (query m) a e = other _ refl e
 
 -- LOOK answers the count with which the request is queued
 look-shows : (f : ℕ → ℕ) (s : Site) → Counted f s → (i b : ℕ) → Shows (call s (look i) .answer) b → b ≡ f i
@@ -282,10 +339,9 @@ look-shows f s h i b sh = by-test (accepts s (look i)) (λ a. accepted a (rw a a
     accepted a sh =
         let l = look-accepted s i a in
         let q = s .class (classOf s i) .queue in
-        let x = find (idIs i) q (class-found s i l) in
-        let is : idOf (x .0) ≡ i = eqb-true (idOf (x .0)) i (first-passes (idIs i) q (x .0) (x .1)) in
-        let e : x .0 .backs ≡ b = told (owed i q) (x .0 .backs) (isConfirmed (x .0)) (rw (x .1) at sh) in
-        sym e ∙ all-first (Before f) (idIs i) q (x .0) (x .1) (h (classOf s i) l) ∙ ap f is
+        let x = find-request i q (class-found s i l) in
+        let e : x .0 .backs ≡ b = told (owed i q) (x .0 .backs) (isConfirmed (booking (x .0))) (rw (x .1) at sh) in
+        sym e ∙ all-first (OfRequest (Before f)) (idIs i) q (booking (x .0)) (x .1) (h (classOf s i) l) ∙ ap f (x .2)
 
 -- THE PROMISE, after any history from fresh
 counts : (h : List Call) → Counted (λ i. putBacks i h) (after h)

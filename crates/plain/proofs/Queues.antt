@@ -7,13 +7,14 @@ use mathlib.Core.Bool.{Bool, true, false, cond}
 use mathlib.Core.Option.{some}
 use mathlib.Core.List.{List, [], _∷_, _++_, append-assoc}
 use lib.ListN.{length}
+use borrow.Author.Tests.{eqb-true}
 use Rattle.plain.specs.Ops.{Request}
-use Rattle.plain.specs.Queue.{Item, isConfirmed, line, asks, asked, any, count, firstOf, dropOf}
+use Rattle.plain.specs.Queue.{Entry, Item, booking, reading, idOf, idIs, isReading, isConfirmed, line, asks, asked, any, count, firstOf, dropOf}
 use Rattle.plain.specs.Queue.{confirmedPart, beforeWaiting}
 use Rattle.plain.specs.Site.{confirmedAt}
-use Rattle.plain.specs.Sound.{All, Waiting, Follows, InOrder, Belongs, Untouched, Working}
+use Rattle.plain.specs.Sound.{All, OfRequest, Waiting, Follows, InOrder, Belongs, Untouched, Working}
 use Rattle.plain.proofs.Tests.{by-test, no, or-left, or-right}
-use Rattle.plain.proofs.Items.{follows-confirmed, waiting-unconfirmed, follows-line, follows-weaken, at-head}
+use Rattle.plain.proofs.Items.{request-of, follows-confirmed, waiting-unconfirmed, follows-line, follows-weaken, at-head}
 
 -- WHAT HOLDS OF EVERY ONE
 pub all-append : (P : Item → Type 0) (q : List Item) (x : Item) → P x → All P q → All P (q ++ (x ∷ []))
@@ -40,15 +41,28 @@ pub all-map : {A : Type 0} (P Q : A → Type 0) → ((x : A) → P x → Q x) �
 all-map P Q f [] h = tt
 all-map P Q f (x ∷ q) h = (f x (h .0), all-map P Q f q (h .1))
 
+-- two facts of every request of a queue, a third
+pub all-requests : (P Q R : Entry → Type 0) → ((e : Entry) → P e → Q e → R e) → (q : List Item) → All (OfRequest P) q → All (OfRequest Q) q → All (OfRequest R) q
+all-requests P Q R f [] h g = tt
+all-requests P Q R f (booking e ∷ q) h g = (f e (h .0) (g .0), all-requests P Q R f q (h .1) (g .1))
+all-requests P Q R f (reading p b ∷ q) h g = (tt, all-requests P Q R f q (h .1) (g .1))
+
+pub each-request : (P : Item → Type 0) (R : Entry → Type 0) → ((e : Entry) → P (booking e) → R e) → (q : List Item) → All P q → All (OfRequest R) q
+each-request P R f [] h = tt
+each-request P R f (booking e ∷ q) h = (f e (h .0), each-request P R f q (h .1))
+each-request P R f (reading p b ∷ q) h = (tt, each-request P R f q (h .1))
+
 -- the requests of two queues
 pub asked-append : (p q : List Item) → asked (p ++ q) ≡ asked p ++ asked q
 asked-append [] q = refl
 asked-append (x ∷ p) q =
     ap (λ (l : List Request). asks x ++ l) (asked-append p q) ∙ sym (append-assoc (asks x) (asked p) (asked q))
 
-pub asked-length : (q : List Item) → length (asked q) ≡ length q
+-- a queue's requests and its entries of queries
+pub asked-length : (q : List Item) → length (asked q) + count isReading q ≡ length q
 asked-length [] = refl
-asked-length (x ∷ q) = rw (asked-length q)
+asked-length (booking e ∷ q) = let r = asked-length q in omega arith
+asked-length (reading p b ∷ q) = let r = asked-length q in omega arith
 
 -- TESTS. The first that passes, if one does
 pub find : (f : Item → Bool) (q : List Item) → any f q ≡ true → (x : Item) × (firstOf f q ≡ some x)
@@ -64,6 +78,16 @@ first-passes f (y ∷ q) x s =
     by-test (f y)
     (λ t. let p : y ≡ x = cc (rw t at s) in rw (← p) t)
     (λ g. first-passes f q x (rw g at s))
+
+-- the request under an id
+pub found-request : (i : ℕ) (q : List Item) (x : Item) → firstOf (idIs i) q ≡ some x → (e : Entry) × (firstOf (idIs i) q ≡ some (booking e)) × (x ≡ booking e)
+found-request i q x s = let r = request-of i x (first-passes (idIs i) q x s) in (r .0, s ∙ ap some (r .1), r .1)
+
+pub find-request : (i : ℕ) (q : List Item) → any (idIs i) q ≡ true → (e : Entry) × (firstOf (idIs i) q ≡ some (booking e)) × (idOf e ≡ i)
+find-request i q h =
+    let x = find (idIs i) q h in
+    let e = found-request i q (x .0) (x .1) in
+    (e .0, e .1, eqb-true (idOf (e .0)) i (first-passes (idIs i) q (booking (e .0)) (e .1)))
 
 pub none-passes : (f : Item → Bool) (q : List Item) → any f q ≡ false → All (λ x. f x ≡ false) q
 none-passes f [] u = tt

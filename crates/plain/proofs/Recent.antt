@@ -8,19 +8,19 @@ use mathlib.Core.List.{List, [], _∷_}
 use lib.Dec.{eqb}
 use borrow.Author.Tests.{eqb-true, eqb-false, eq-eqb, ne-eqb, ltb-true, ltb-false, lt-ltb}
 use Rattle.plain.specs.Record.{requestIn}
-use Rattle.plain.specs.Queue.{Item, idOf, idIs, numberIs, isConfirmed, count, entryOf}
-use Rattle.plain.specs.Steps.{Did, newEntry, workStep, offerStep, confirmStep}
-use Rattle.plain.specs.Site.{Site, Call, offer, work, confirm, read, look, lowest, standing, classOf, freeSlot}
+use Rattle.plain.specs.Queue.{Item, booking, reading, idOf, idIs, numberIs, isConfirmed, count, entryOf}
+use Rattle.plain.specs.Steps.{Did, newEntry, numbered, workStep, offerStep, confirmStep}
+use Rattle.plain.specs.Site.{Site, Call, offer, work, confirm, read, look, query, lowest, standing, classOf, freeSlot}
 use Rattle.plain.specs.Site.{Recent, firstRecent, recentCount, isKept, call, act, accepts, inClass}
-use Rattle.plain.specs.Sound.{SoundSite, differs, strange, Belongs}
+use Rattle.plain.specs.Sound.{SoundSite, differs, strange, Waiting, Belongs}
 use Rattle.plain.proofs.Tests.{by-test, no}
 use Rattle.plain.proofs.Sums.{lowest-passes, lowest-from, lowest-none, sum-add, sum-le}
-use Rattle.plain.proofs.Items.{Lasting, is-valid}
+use Rattle.plain.proofs.Items.{Lasting, is-valid, unconfirmed-waits}
 use Rattle.plain.proofs.Queues.{all-first, first-passes, first-any, one}
 use Rattle.plain.proofs.Steps.{nothing, that, Turnover, Works, unconcerned, one-done, last-done}
 use Rattle.plain.proofs.Confirming.{Confirms, at-once, later}
 use Rattle.plain.proofs.Sites.{standing-some, number-unused, work-accepted, offer-accepted, Confirmable, confirm-accepted}
-use Rattle.plain.proofs.Accepted.{turns, work-both, offer-both, confirm-both}
+use Rattle.plain.proofs.Accepted.{turns, work-both, offer-both, confirm-both, query-standing}
 
 -- THE TEST. A kept id has one of the last 256 numbers, and the id of one of those is kept
 module _ (s : Site) (i : ℕ) where
@@ -72,8 +72,18 @@ strange-lasts : (n i : ℕ) → Lasting (strange n i)
 strange-lasts n i = record { work = λ e t. refl; back = λ e. refl }
 
 -- of a request that waits the test is that of its id
-waiting-strange : (n i : ℕ) (e : Item) → 0 < n → e .number ≡ 0 → strange n i e ≡ idIs i e
-waiting-strange n i e l z = rw (z, ne-eqb 0 n (λ h. omega arith), lt-ltb 0 n l)
+waiting-strange : (n i : ℕ) (x : Item) → 0 < n → Waiting x → strange n i x ≡ idIs i x
+waiting-strange n i (booking e) l z = rw (z, ne-eqb 0 n (λ h. omega arith), lt-ltb 0 n l)
+waiting-strange n i (reading p b) l z = refl
+
+-- and of one with the number n that of its id for every other number, and fails for its id and n
+numbered-strange : (n m j : ℕ) (x : Item) → 0 < m → m < n → strange m j (numbered n x) ≡ idIs j x
+numbered-strange n m j (booking e) k u = rw (ne-eqb n m (λ h. omega arith), lt-ltb 0 m k)
+numbered-strange n m j (reading p b) k u = refl
+
+numbered-fits : (n i : ℕ) (x : Item) → 0 < n → idIs i x ≡ true → strange n i (numbered n x) ≡ false
+numbered-fits n i (booking e) l h = rw (h, eq-eqb n n refl, lt-ltb 0 n l)
+numbered-fits n i (reading p b) l h = refl
 
 -- THE THREE RULES
 pub record Keeping (s : Site) : Type 0 where
@@ -117,11 +127,11 @@ module _ (s : Site) (w : SoundSite s) where
       ))
     where
       e : Item
-      e = newEntry (requestIn b) (freeSlot s)
+      e = booking (newEntry (requestIn b) (freeSlot s))
 
   -- A NUMBER IS GIVEN to the waiting request x of class c with id i; what comes in its stead, if anything does, is y
   module _ (i n c : ℕ) (d : Did) (f : Confirmable s i n) (x : Item) (come : (Item → Bool) → ℕ) (l : c < 16)
-      (en : entryOf i (s .class c .queue) ≡ some x) (waits : x .number ≡ 0) (t : Turnover (s .class c) (d .class) (that x) come)
+      (en : entryOf i (s .class c .queue) ≡ some x) (waits : Waiting x) (t : Turnover (s .class c) (d .class) (that x) come)
       (same : (m : ℕ) → 0 < m → m < n → (j : ℕ) → come (strange m j) ≤ one (strange m j) x) (fits : come (strange n i) ≡ 0) where
     is-it : idIs i x ≡ true
     is-it = first-passes (idIs i) (s .class c .queue) x en
@@ -179,9 +189,13 @@ module _ (s : Site) (w : SoundSite s) where
       where
         not-zero : 0 < i
         not-zero =
-            let b = all-first (Belongs c) (idIs i) (s .class c .queue) x en (w .each c l .belong) in
-            let v = is-valid (x .request) (b .valid) .id in
-            omega (arith, eqb-true (idOf x) i is-it, by-test (eqb (idOf x) 0) (λ y. absurd (v (eqb-true _ 0 y))) (λ z. eqb-false (idOf x) 0 z))
+            go x is-it (all-first (Belongs c) (idIs i) (s .class c .queue) x en (w .each c l .belong))
+          where
+            go : (x : Item) → idIs i x ≡ true → Belongs c x → 0 < i
+            go (reading p n) h b = no _ h refl
+            go (booking e) h b =
+                let v = is-valid (e .request) (b .valid) .id in
+                omega (arith, eqb-true (idOf e) i h, by-test (eqb (idOf e) 0) (λ y. absurd (v (eqb-true _ 0 y))) (λ z. eqb-false (idOf e) 0 z))
 
         last-one : standing (strange (suc (s .confirmations)) i) after ≡ 0
         last-one =
@@ -210,16 +224,16 @@ module _ (s : Site) (w : SoundSite s) where
       g : Confirmable s i n
       g = confirm-accepted s i n a
 
-      unnumbered : (x : Item) → entryOf i (s .class c .queue) ≡ some x → x .number ≡ 0
-      unnumbered x en = let u : isConfirmed x ≡ false = rw en at (g .waits) in omega (arith, ltb-false 0 (x .number) u)
+      unnumbered : (x : Item) → entryOf i (s .class c .queue) ≡ some x → Waiting x
+      unnumbered x en = let u : isConfirmed x ≡ false = rw en at (g .waits) in unconfirmed-waits x u
 
       go : Confirms i n (s .class c) d → Keeping (inClass s c (some i) d .site)
       go (at-once x b sl bk en p p′ r z t) =
           number-keeps i n c d g x nothing (g .known) en (unnumbered x en) t (λ m k u j. omega arith) refl
       go (later x y back en num e p b z t) =
           number-keeps i n c d g x (that y) (g .known) en (unnumbered x en) t
-          (λ m k u j. rw (e, waiting-strange m j x k (unnumbered x en), ne-eqb n m (λ h. omega arith), lt-ltb 0 m k) (omega arith))
-          (rw (e, first-passes (idIs i) (s .class c .queue) x en, eq-eqb n n refl, lt-ltb 0 n (omega (arith, g .next))))
+          (λ m k u j. rw (e, waiting-strange m j x k (unnumbered x en), numbered-strange n m j x k u) (omega arith))
+          (rw (e, numbered-fits n i x (omega (arith, g .next)) (first-passes (idIs i) (s .class c .queue) x en)))
 
   pub call-keeping : (k : Call) → Keeping (call s k .site)
   unfolding call act
@@ -234,3 +248,8 @@ module _ (s : Site) (w : SoundSite s) where
       go (confirm i n) a = confirm-keeps i n a
       go (read c k) a = same
       go (look i) a = same
+      go (query m) a = record {
+        not-zero = w .kept-not-zero;
+        differ = w .kept-differ;
+        queued = λ n r. query-standing s w m a (strange n (s .kept n)) (strange-lasts n (s .kept n)) refl ∙ w .kept-queued n r;
+      }

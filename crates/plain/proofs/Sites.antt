@@ -1,27 +1,27 @@
 -- A step in one class of a site, what an accepted call's refusals tell, and what a call brings and takes. Assumes nothing.
-use Prim.Native.Nat.{ℕ, _+_, _<_, _≤_}
+use Prim.Native.Nat.{ℕ, zero, suc, _+_, _/_, _<_, _≤_}
 use native.Mathlib.Omega.{arith}
 use mathlib.Core.Path.{_≡_, refl, ap, _∙_}
 use mathlib.Core.Logic.{inl, inr}
-use mathlib.Core.Bool.{Bool, true, false, cond, and-false}
+use mathlib.Core.Bool.{Bool, true, false, not, cond, and-false}
 use mathlib.Core.Option.{Option}
 use mathlib.Core.List.{List, [], _∷_}
 use lib.Dec.{ltb, eqb}
-use lib.ListN.{length}
-use borrow.Author.Tests.{eqb-true, eqb-false, eq-eqb, ne-eqb, leb-false, ltb-true, ltb-false, not-false}
+use lib.ListN.{length, getD}
+use borrow.Author.Tests.{eqb-true, eqb-false, eq-eqb, ne-eqb, leb-false, ltb-true, ltb-false, not-true, not-false}
 use Rattle.plain.specs.Ops.{valid}
 use Rattle.plain.specs.Record.{isRecord, recordRules, request, requestIn}
-use Rattle.plain.specs.Queue.{Item, idIs, slotIs, numberIs, any, count, has, asked}
+use Rattle.plain.specs.Queue.{Item, booking, reading, idIs, slotIs, numberIs, placeIs, line, any, count, has, asked}
 use Rattle.plain.specs.Steps.{Class, Did, idle}
-use Rattle.plain.specs.Site.{Site, offer, work, confirm, read, look, accepts, refusal, row, tests}
-use Rattle.plain.specs.Site.{lowest, sum, standing, classOf, entryAt, confirmedAt, isFree, freeSlot, numberQueued, isKept}
-use Rattle.plain.specs.Site.{atClass, inClass}
-use Rattle.plain.specs.Sound.{All, InOrder, Waiting, SoundSite, Belongs}
+use Rattle.plain.specs.Site.{Site, offer, work, confirm, read, look, query, accepts, refusal, row, tests}
+use Rattle.plain.specs.Site.{sum, standing, classOf, entryAt, confirmedAt, isFree, freeSlot, numberQueued, isKept}
+use Rattle.plain.specs.Site.{atClass, inClass, bits, named, isOpen, freePlace}
+use Rattle.plain.specs.Sound.{All, OfRequest, InOrder, Waiting, SoundSite, Placed, Belongs}
 use Rattle.plain.proofs.Tests.{by-test, no, all-true}
-use Rattle.plain.proofs.Sums.{lowest-passes, lowest-is, lowest-none, sum-add, sum-zero, sum-same, sum-le, sum-const}
+use Rattle.plain.proofs.Sums.{lowest-passes, lowest-is, lowest-from, lowest-none, sum-add, sum-zero, sum-same, sum-le, sum-const}
 use Rattle.plain.proofs.Sums.{sum-one, sum-term, sum-pair, sum-change, exchange}
 use Rattle.plain.proofs.Items.{is-valid}
-use Rattle.plain.proofs.Queues.{all-map, one, count-some, count-none, none-passes}
+use Rattle.plain.proofs.Queues.{all-map, count-some, count-none, none-passes}
 use Rattle.plain.proofs.Table.{none-holds, rising}
 
 -- ONE CLASS of the site is changed
@@ -83,14 +83,22 @@ not-queued s i n =
     (lowest-none (λ c. has i (s .class c .queue)) 0 16 n c (omega arith) l))
 
 -- SLOTS: as many stand in queues as requests are queued, so below 128 requests the lowest free slot is below 128
-slots-of : (n : ℕ) (q : List Item) → All (λ e. e .slot < n) q → sum (λ i. count (slotIs i) q) n ≡ length (asked q)
-slots-of n [] h = sum-zero n
-slots-of n (x ∷ q) h =
-    let r = slots-of n q (h .1) in
-    sum-add (λ i. cond (slotIs i x) 1 0) (λ i. count (slotIs i) q) n ∙ omega (arith, sum-one (x .slot) n (h .0))
+abbrev pub SlotBelow : ℕ → Item → Type 0
+SlotBelow n = OfRequest (λ e. e .slot < n)
 
-pub slots-below : (s : Site) → SoundSite s → (c : ℕ) → c < 16 → All (λ e. e .slot < 128) (s .class c .queue)
-slots-below s w c l = all-map (Belongs c) (λ e. e .slot < 128) (λ e b. b .slot-below) (s .class c .queue) (w .each c l .belong)
+slots-of : (n : ℕ) (q : List Item) → All (SlotBelow n) q → sum (λ i. count (slotIs i) q) n ≡ length (asked q)
+slots-of n [] h = sum-zero n
+slots-of n (booking e ∷ q) h =
+    let r = slots-of n q (h .1) in
+    sum-add (λ i. cond (slotIs i (booking e)) 1 0) (λ i. count (slotIs i) q) n ∙ omega (arith, sum-one (e .slot) n (h .0))
+slots-of n (reading p b ∷ q) h = sum-add (λ i. 0) (λ i. count (slotIs i) q) n ∙ omega (arith, sum-zero n, slots-of n q (h .1))
+
+belongs-below : (c : ℕ) (x : Item) → Belongs c x → SlotBelow 128 x
+belongs-below c (booking e) b = b .slot-below
+belongs-below c (reading p n) b = tt
+
+pub slots-below : (s : Site) → SoundSite s → (c : ℕ) → c < 16 → All (SlotBelow 128) (s .class c .queue)
+slots-below s w c l = all-map (Belongs c) (SlotBelow 128) (belongs-below c) (s .class c .queue) (w .each c l .belong)
 
 pub slots-queued : (s : Site) → SoundSite s → sum (λ i. standing (slotIs i) s) 128 ≡ numberQueued s
 unfolding standing numberQueued
@@ -116,10 +124,16 @@ free s l = eqb-true _ 0 (lowest-passes (λ i. eqb (standing (slotIs i) s) 0) 0 1
 -- NUMBERS above the count of confirmations stand nowhere
 above : (m top j : ℕ) (q : List Item) → top < j → InOrder m top q → All (λ x. numberIs j x ≡ false) q
 above m top j [] l o = tt
-above m top j (e ∷ q) l (inl o) =
-    (rw (ne-eqb (e .number) j (λ h. omega arith)) (and-false (ltb 0 j)), above (e .number) top j q l (o .2))
-above m top j (e ∷ q) l (inr o) =
-    all-map Waiting (λ x. numberIs j x ≡ false) (λ x w. rw (ne-eqb (x .number) j (λ h. omega arith)) (and-false (ltb 0 j))) (e ∷ q) o
+above m top j (x ∷ q) l (inl o) = (not-so x (o .1), above (line x) top j q l (o .2))
+  where
+    not-so : (x : Item) → line x ≤ top → numberIs j x ≡ false
+    not-so (booking e) o = rw (ne-eqb (e .number) j (λ h. omega arith)) (and-false (ltb 0 j))
+    not-so (reading p b) o = refl
+above m top j (x ∷ q) l (inr o) = all-map Waiting (λ x. numberIs j x ≡ false) none (x ∷ q) o
+  where
+    none : (x : Item) → Waiting x → numberIs j x ≡ false
+    none (booking e) w = rw (ne-eqb (e .number) j (λ h. omega arith)) (and-false (ltb 0 j))
+    none (reading p b) w = refl
 
 pub number-unused : (s : Site) → SoundSite s → (j : ℕ) → s .confirmations < j → standing (numberIs j) s ≡ 0
 number-unused s w j l =
@@ -180,3 +194,31 @@ read-accepted s c k a = leb-false _ _ (none-holds (row 2) (tests s (read c k)) (
 pub look-accepted : (s : Site) (i : ℕ) → accepts s (look i) ≡ true → classOf s i < 16
 unfolding refusal
 look-accepted s i a = ltb-true _ _ (not-false _ (none-holds (row 2) (tests s (look i)) (rising s (look i)) (eqb-true _ 0 a) .0))
+
+-- a mask names classes below 16
+bits-below : (k n c : ℕ) → getD (bits k n) c false ≡ true → c < k
+unfolding bits
+bits-below zero n c h = no _ h refl
+bits-below (suc k) n zero h = omega arith
+bits-below (suc k) n (suc c) h = let r = bits-below k (n / 2) c h in omega arith
+
+pub named-below : (m c : ℕ) → named m c ≡ true → c < 16
+unfolding named
+named-below m c h = bits-below 16 m c h
+
+-- the place of an accepted query is one of the 8, and no entry has it
+pub record Beginnable (s : Site) : Type 0 where
+  pub placed : Placed (freePlace s)
+  pub unused : standing (placeIs (freePlace s)) s ≡ 0
+  pub last : s .queries < 4294967295
+
+pub query-accepted : (s : Site) (m : ℕ) → accepts s (query m) ≡ true → Beginnable s
+unfolding refusal freePlace isOpen
+query-accepted s m a =
+    let p = none-holds (row 2) (tests s (query m)) (rising s (query m)) (eqb-true _ 0 a) in
+    let l : freePlace s ≤ 8 = ltb-false 8 (freePlace s) (p .1 .0) in
+    record {
+      placed = record { from-1 = lowest-from (λ p. not (isOpen s p)) 1 8; to-8 = l };
+      unused = omega (arith, ltb-false 0 (standing (placeIs (freePlace s)) s) (not-true _ (lowest-passes (λ p. not (isOpen s p)) 1 8 (omega arith))));
+      last = leb-false _ _ (p .1 .1 .0);
+    }

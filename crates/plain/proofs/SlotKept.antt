@@ -12,10 +12,10 @@ use lib.ListN.{length}
 use borrow.Author.Tests.{eqb-true, eqb-false, eq-eqb, ne-eqb}
 use Rattle.plain.specs.Ops.{Request}
 use Rattle.plain.specs.Record.{requestIn}
-use Rattle.plain.specs.Queue.{Item, idOf, isExecuted, idIs, slotIs, isConfirmed, any, count}
-use Rattle.plain.specs.Steps.{Class, Did, Answer, refused, queued, stepped, executed, committed, waiting, value, toDo, unconfirmed}
+use Rattle.plain.specs.Queue.{Entry, Item, booking, reading, idOf, isExecuted, idIs, slotIs, isConfirmed, any, count}
+use Rattle.plain.specs.Steps.{Class, Did, Answer, refused, queued, stepped, executed, committed, waiting, value, toDo, unconfirmed, begun, entry}
 use Rattle.plain.specs.Steps.{newEntry, tried, advanced, workOn, workStep, confirmOn, confirmStep, offerStep}
-use Rattle.plain.specs.Site.{Site, Call, offer, work, confirm, read, look, call, act, accepts, classOf, inClass, standing}
+use Rattle.plain.specs.Site.{Site, Call, offer, work, confirm, read, look, query, call, act, accepts, classOf, inClass, standing, named, freePlace}
 use Rattle.plain.specs.Site.{isFree, freeSlot, entryAt, confirmedAt}
 use Rattle.plain.specs.Sound.{SoundSite}
 use Rattle.plain.specs.History.{afterFrom}
@@ -27,10 +27,10 @@ use Rattle.plain.proofs.Sites.{standing-change, standing-some, not-queu
 use Rattle.plain.proofs.Sites.{work-accepted, Offered, offer-accepted, confirm-accepted}
 use Rattle.plain.proofs.Kept.{call-sound}
 use Rattle.plain.proofs.Turn.{from-sound}
-use Rattle.plain.proofs.Stands.{Stands, Off, AfterWork, AfterConfirm, work-stands, confirm-stands, never-both}
+use Rattle.plain.proofs.Stands.{Stands, Off, AfterWork, AfterConfirm, work-stands, confirm-stands, query-stands, never-both}
 
 -- On a sound site a request keeps the slot in which it stands
-keeps : (s : Site) → SoundSite s → (r : Request) (j : ℕ) (x : Item) → r .class < 16 → x .request ≡ r → x .slot ≡ j
+keeps : (s : Site) → SoundSite s → (r : Request) (j : ℕ) (x : Entry) → r .class < 16 → x .request ≡ r → x .slot ≡ j
     → Stands (r .id) x (s .class (r .class) .queue) → Keeps s r j
 unfolding isFree
 keeps s w r j x l p q u =
@@ -44,7 +44,7 @@ keeps s w r j x l p q u =
       used = ne-eqb (standing (slotIs j) s) 0 (λ z. omega (
         arith,
         standing-some (slotIs j) s (r .class) l
-            (first-any (idIs (r .id)) (slotIs j) (s .class (r .class) .queue) (u .0) (u .1) (eq-eqb (u .0 .slot) j e)),
+            (first-any (idIs (r .id)) (slotIs j) (s .class (r .class) .queue) (booking (u .0)) (u .1) (eq-eqb (u .0 .slot) j e)),
       ));
       not-both = never-both (r .class) (s .confirmations) (r .id) (s .class (r .class)) (u .0) (w .each (r .class) l) (u .1);
     }
@@ -59,7 +59,7 @@ offered-keeps s w b a = (rw a, keeps (call s (offer b) .site) (call-sound s (off
     r : Request
     r = requestIn b
 
-    x : Item
+    x : Entry
     x = newEntry r (freeSlot s)
 
     f : Offered s b
@@ -73,7 +73,7 @@ offered-keeps s w b a = (rw a, keeps (call s (offer b) .site) (call-sound s (off
 
     stands : Stands (r .id) x (call s (offer b) .site .class (r .class) .queue)
     stands = rw (a, eq-eqb (r .class) (r .class) refl)
-        (x, first-last (idIs (r .id)) (s .class (r .class) .queue) x new (eq-eqb (r .id) (r .id) refl), refl, refl)
+        (x, first-last (idIs (r .id)) (s .class (r .class) .queue) (booking x) new (eq-eqb (r .id) (r .id) refl), refl, refl)
 
 -- while a request keeps a slot no offer is given it
 pub not-given : (s : Site) → SoundSite s → (r : Request) (j : ℕ) → Keeps s r j → (b : List ℕ) → accepts s (offer b) ≡ true → freeSlot s ≡ j → ⊥
@@ -86,7 +86,7 @@ module _ (s : Site) (w : SoundSite s) (r : Request) (j : ℕ) (u : Keeps s r j) 
   abbrev c : ℕ
   c = r .class
 
-  abbrev x : Item
+  abbrev x : Entry
   x = u .it
 
   -- it is kept
@@ -167,9 +167,9 @@ module _ (s : Site) (w : SoundSite s) (r : Request) (j : ℕ) (u : Keeps s r j) 
       go : (k : Call) → accepts s k ≡ true → After k
       go (offer b) a =
           let d = requestIn b .class in
-          let y = newEntry (requestIn b) (freeSlot s) in
+          let y = booking (newEntry (requestIn b) (freeSlot s)) in
           inl (kept (offer b) (rw a (stays d none (offerStep (requestIn b) (freeSlot s) (s .class d))
-          (λ p. (x, first-append (idIs (r .id)) (s .class d .queue) x y (rw p (u .queued)), refl, refl)))))
+          (λ p. (x, first-append (idIs (r .id)) (s .class d .queue) (booking x) y (rw p (u .queued)), refl, refl)))))
       go (work d) a =
           by-test (eqb d c)
           (λ t. let p : d ≡ c = eqb-true d c t in rw p (worked-here (rw p at a)))
@@ -181,6 +181,10 @@ module _ (s : Site) (w : SoundSite s) (r : Request) (j : ℕ) (u : Keeps s r j) 
           (λ f. inl (kept (confirm i n) (rw a (stays d (some i) (confirmStep i n (s .class d)) (λ p. absurd (eqb-false d c f p))))))
       go (read d k) a = inl (kept (read d k) (rw a (x, u .queued, refl, refl)))
       go (look i) a = inl (kept (look i) (rw a (x, u .queued, refl, refl)))
+      go (query m) a =
+          inl (kept (query m) (rw a (by-test (named m c)
+          (λ t. rw t (query-stands (r .id) (freePlace s) (s .confirmations) (s .class c) x (u .queued)))
+          (λ f. rw f (x, u .queued, refl, refl)))))
 
   pub not-kept-and-freed : (k : Call) → Keeps (call s k .site) r j → Frees s k (call s k) r j → ⊥
   not-kept-and-freed k v f = no _ (f .free) (v .used)
@@ -196,6 +200,8 @@ slotIn (waiting i w b) = none
 slotIn (value x) = none
 slotIn (toDo w b) = none
 slotIn (unconfirmed b) = none
+slotIn (begun p) = none
+slotIn (entry p l) = none
 
 work-gives : (k : Class) → slotIn (workStep k .answer) ≡ none
 unfolding workStep
@@ -203,10 +209,11 @@ work-gives k = go (k .queue)
   where
     go : (q : List Item) → slotIn (workOn q (k .committed) (k .working) .answer) ≡ none
     go [] = refl
-    go (e ∷ rest) =
-        let e′ = advanced e (tried e (k .working)) in
+    go (reading p b ∷ rest) = refl
+    go (booking e ∷ rest) =
+        let e′ = booking (advanced e (tried e (k .working))) in
         by-test (isExecuted e′)
-        (λ v. by-test (isConfirmed e) (λ t. rw (v, t)) (λ f. rw (v, f)))
+        (λ v. by-test (isConfirmed (booking e)) (λ t. rw (v, t)) (λ f. rw (v, f)))
         (λ v. rw v)
 
 confirm-gives : (i n : ℕ) (k : Class) → slotIn (confirmStep i n k .answer) ≡ none
@@ -215,9 +222,10 @@ confirm-gives i n k = go (k .queue)
   where
     go : (q : List Item) → slotIn (confirmOn i n q (k .committed) (k .working) .answer) ≡ none
     go [] = refl
-    go (h ∷ rest) =
-        by-test (idIs i h)
-        (λ y. by-test (isExecuted h) (λ v. rw (y, v)) (λ v. rw (y, v)))
+    go (reading p b ∷ rest) = refl
+    go (booking h ∷ rest) =
+        by-test (idIs i (booking h))
+        (λ y. by-test (isExecuted (booking h)) (λ v. rw (y, v)) (λ v. rw (y, v)))
         (λ y. rw y)
 
 -- while a request keeps a slot no answer gives it
@@ -233,6 +241,7 @@ none-given s w r j u k g = by-test (accepts s k) (go k (ap slotIn (g .says))) (�
     go (work c) e a = never (work-gives (s .class c)) (rw a at e)
     go (confirm i n) e a = never (confirm-gives i n (s .class (classOf s i))) (rw a at e)
     go (read c k) e a = never refl (rw a at e)
+    go (query m) e a = never refl (rw a at e)
     go (look i) e a =
         by-test (confirmedAt (entryAt s i)) (λ t. never refl (rw t at (rw a at e))) (λ f. never refl (rw f at (rw a at e)))
 

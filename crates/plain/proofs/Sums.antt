@@ -41,15 +41,19 @@ lowest-le p from zero = omega arith
 lowest-le p from (suc count) =
     let r = lowest-le p (suc from) count in by-test (p from) (λ t. rw t (omega arith)) (λ f. rw f (omega arith))
 
-pub lowest-none : (p : ℕ → Bool) (from count : ℕ) → from + count ≤ lowest p from count → (i : ℕ) → from ≤ i → i < from + count → p i ≡ false
-lowest-none p from zero h i l m = absurd (omega arith)
-lowest-none p from (suc count) h i l m =
+-- none below it passes, and none at all where there is none
+pub lowest-below : (p : ℕ → Bool) (from count i : ℕ) → from ≤ i → i < lowest p from count → p i ≡ false
+lowest-below p from zero i l m = absurd (omega arith)
+lowest-below p from (suc count) i l m =
     by-test (p from)
-    (λ t. let k : from + suc count ≤ from = rw t at h in absurd (omega arith))
-    (λ f. let k : from + suc count ≤ lowest p (suc from) count = rw f at h in
+    (λ t. let k : i < from = rw t at m in absurd (omega arith))
+    (λ f. let k : i < lowest p (suc from) count = rw f at m in
     by-test (eqb from i)
     (λ y. rw (← eqb-true from i y) f)
-    (λ y. let ne : from ≡ i → ⊥ = eqb-false from i y in lowest-none p (suc from) count (omega arith) i (omega arith) (omega arith)))
+    (λ y. let ne : from ≡ i → ⊥ = eqb-false from i y in lowest-below p (suc from) count i (omega arith) k))
+
+pub lowest-none : (p : ℕ → Bool) (from count : ℕ) → from + count ≤ lowest p from count → (i : ℕ) → from ≤ i → i < from + count → p i ≡ false
+lowest-none p from count h i l m = lowest-below p from count i l (omega arith)
 
 pub sum-add : (f g : ℕ → ℕ) (n : ℕ) → sum (λ i. f i + g i) n ≡ sum f n + sum g n
 unfolding sum

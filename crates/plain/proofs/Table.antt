@@ -7,7 +7,7 @@ use mathlib.Core.Logic.{_⊎_, inl, inr}
 use mathlib.Core.Bool.{Bool, true, false}
 use mathlib.Core.List.{List, [], _∷_, _++_}
 use lib.Dec.{T, ltb, ltb→lt}
-use Rattle.plain.specs.Site.{Site, Call, offer, work, confirm, read, look, tests, row, first, refusal, call, accepts}
+use Rattle.plain.specs.Site.{Site, Call, offer, work, confirm, read, look, query, tests, row, first, refusal, call, accepts}
 use Rattle.plain.specs.Steps.{refused}
 use Rattle.plain.specs.Sound.{All}
 use Rattle.plain.proofs.Tests.{by-test}
@@ -91,6 +91,7 @@ rising s (work c) = (tt, (tt, tt))
 rising s (confirm i n) = (tt, (tt, (tt, (tt, tt))))
 rising s (read c k) = (tt, (tt, tt))
 rising s (look i) = (tt, tt)
+rising s (query m) = (tt, (tt, (tt, tt)))
 
 -- A refused call changes nothing, and answers its number
 pub refused-same : (s : Site) (k : Call) → accepts s k ≡ false → call s k ≡ record { site = s; answer = refused (refusal s k) }

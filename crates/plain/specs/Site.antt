@@ -1,38 +1,41 @@
--- A site: 16 classes, two counts and the ids last confirmed; its calls; document 01's table of refusals; what an accepted call does. Assumes nothing.
-use Prim.Native.Nat.{ℕ, zero, suc, _+_, _*_, _-_, _<_, _≤_}
+-- A site: 16 classes, three counts and the ids last confirmed; its calls; document 01's table of refusals; what an accepted call does. Assumes nothing.
+use Prim.Native.Nat.{ℕ, zero, suc, _+_, _*_, _-_, _/_, _%_, _<_, _≤_}
 use mathlib.Core.Bool.{Bool, true, false, not, cond}
 use mathlib.Core.Option.{Option, none, some}
 use mathlib.Core.List.{List, [], _∷_}
 use lib.Dec.{leb, ltb, eqb}
-use lib.ListN.{length, replicate}
-use Rattle.plain.specs.Sizes.{classCount, cellCount, slotCount, lastNumber, keptCount}
+use lib.ListN.{length, getD, replicate}
+use Rattle.plain.specs.Sizes.{classCount, cellCount, slotCount, lastNumber, keptCount, queryCount}
 use Rattle.plain.specs.Ops.{cell}
 use Rattle.plain.specs.Record.{request, requestIn}
-use Rattle.plain.specs.Queue.{Item, slotIs, isConfirmed, count, has, entryOf, owed, asked}
+use Rattle.plain.specs.Queue.{Item, slotIs, placeIs, isConfirmed, backsOf, count, has, entryOf, owed, asked}
 use Rattle.plain.specs.Steps.{Class, Did, Answer, refused, queued, stepped, executed, committed, waiting}
-use Rattle.plain.specs.Steps.{value, toDo, unconfirmed, idle, offerStep, workStep, confirmStep, classWith}
+use Rattle.plain.specs.Steps.{value, toDo, unconfirmed, begun, entry, idle, offerStep, workStep, confirmStep, queryStep, classWith}
 
 pub record Site : Type 0 where
   pub class : ℕ → Class
   pub confirmations : ℕ
   pub commits : ℕ
+  -- the queries begun; a query is open as long as an entry of it stands in a queue
+  pub queries : ℕ
   -- the id that was confirmed under each number; of these the last 256 are kept
   pub kept : ℕ → ℕ
 
 abbrev pub zeros : List ℕ
 zeros = replicate cellCount 0
 
--- FRESH. No request queued, both counts 0, all cells 0
+-- FRESH. No request queued, all counts 0, all cells 0
 unfoldable pub fresh : Site
-fresh = record { class = λ c. classWith [] zeros zeros; confirmations = 0; commits = 0; kept = λ n. 0 }
+fresh = record { class = λ c. classWith [] zeros zeros; confirmations = 0; commits = 0; queries = 0; kept = λ n. 0 }
 
--- a call with its arguments: a record's bytes, a class, an id and a number, a class and a cell, an id
+-- a call with its arguments: a record's bytes, a class, an id and a number, a class and a cell, an id, a mask of classes
 pub data Call : Type 0 where
   offer : (bytes : List ℕ) → Call
   work : (class : ℕ) → Call
   confirm : (id number : ℕ) → Call
   read : (class cell : ℕ) → Call
   look : (id : ℕ) → Call
+  query : (mask : ℕ) → Call
 
 -- the lowest of `count` numbers from `from` that passes the test, or the one past them
 abbrev pub lowest : (ℕ → Bool) → ℕ → ℕ → ℕ
@@ -64,7 +67,7 @@ confirmedAt (some x) = isConfirmed x
 
 abbrev pub backsAt : Option Item → ℕ
 backsAt none = 0
-backsAt (some x) = x .backs
+backsAt (some x) = backsOf x
 
 -- does the slot stand in no queue? the lowest-numbered free slot
 unfoldable pub isFree : Site → ℕ → Bool
@@ -75,6 +78,25 @@ freeSlot s = lowest (isFree s) 0 slotCount
 
 unfoldable pub numberQueued : Site → ℕ
 numberQueued s = sum (λ c. length (asked (s .class c .queue))) classCount
+
+-- the k low digits of n, lowest first; does a mask name class c? Digits past the sixteenth are not looked at
+unfoldable pub bits : ℕ → ℕ → List Bool
+bits zero n = []
+bits (suc k) n = eqb (n % 2) 1 ∷ bits k (n / 2)
+
+unfoldable pub named : ℕ → ℕ → Bool
+named mask c = getD (bits classCount mask) c false
+
+-- the first class that it names, 16 if none
+unfoldable pub firstNamed : ℕ → ℕ
+firstNamed mask = lowest (named mask) 0 classCount
+
+-- is the query with this place open? the lowest of the places 1 to 8 that is free, 9 if none is
+unfoldable pub isOpen : Site → ℕ → Bool
+isOpen s p = ltb 0 (standing (placeIs p) s)
+
+unfoldable pub freePlace : Site → ℕ
+freePlace s = lowest (λ p. not (isOpen s p)) 1 queryCount
 
 -- number n is among the last 256 of so many confirmations
 pub record Recent (confirmations n : ℕ) : Type 0 where
@@ -117,6 +139,11 @@ tests s (confirm i n) =
     ∷ []
 tests s (read c k) = (leb classCount c, 10) ∷ (leb cellCount k, 12) ∷ []
 tests s (look i) = (not (isQueued s i), 8) ∷ []
+tests s (query m) =
+    (leb classCount (firstNamed m), 17)
+    ∷ (ltb queryCount (freePlace s), 18)
+    ∷ (leb lastNumber (s .queries), 24)
+    ∷ []
 
 -- a number's row in the table: 14 stands between 4 and 5
 abbrev pub row : ℕ → ℕ
@@ -149,6 +176,8 @@ commitOf (waiting i w b) = none
 commitOf (value x) = none
 commitOf (toDo w b) = none
 commitOf (unconfirmed b) = none
+commitOf (begun p) = none
+commitOf (entry p l) = none
 
 abbrev pub commitsBy : Answer → ℕ
 commitsBy a = elim (commitOf a) [ none ↦ 0 | some i ↦ 1 ]
@@ -172,9 +201,23 @@ inClass s c new d = record {
     class = atClass c (d .class) (s .class);
     confirmations = s .confirmations + given new;
     commits = s .commits + commitsBy (d .answer);
+    queries = s .queries;
     kept = keptWith new (suc (s .confirmations)) (s .kept);
   };
   answer = d .answer;
+}
+
+-- QUERY. Each class that the mask names gets an entry of the query with the lowest free place
+abbrev pub inNamed : Site → ℕ → (Class → Class) → ℕ → Class
+inNamed s m step c = cond (named m c) (step (s .class c)) (s .class c)
+
+abbrev pub begins : Site → ℕ → Site
+begins s m = record {
+  class = inNamed s m (queryStep (freePlace s) (s .confirmations));
+  confirmations = s .confirmations;
+  commits = s .commits;
+  queries = s .queries + 1;
+  kept = s .kept;
 }
 
 -- LOOK. W for a confirmed request, or that it is unconfirmed; and how often it was put back
@@ -190,6 +233,7 @@ act s (work c) = inClass s c none (workStep (s .class c))
 act s (confirm i n) = inClass s (classOf s i) (some i) (confirmStep i n (s .class (classOf s i)))
 act s (read c k) = record { site = s; answer = value (cell (s .class c .committed) k) }
 act s (look i) = record { site = s; answer = lookAnswer i (s .class (classOf s i)) }
+act s (query m) = record { site = begins s m; answer = begun (freePlace s) }
 
 -- A CALL: refused under its number with nothing changed, or done
 unfoldable pub call : Site → Call → Outcome

@@ -43,6 +43,14 @@ firstOp = 8
 abbrev pub keptCount : ℕ
 keptCount = 256
 
--- W is at most 128 requests of 7 operations
+-- up to 8 queries are open, at places 1 to 8
+abbrev pub queryCount : ℕ
+queryCount = 8
+
+-- a queue holds at most 128 requests and an entry of each of 8 queries
+abbrev pub mostQueued : ℕ
+mostQueued = 136
+
+-- W is at most 128 requests of 7 operations and 8 entries
 abbrev pub mostW : ℕ
-mostW = 896
+mostW = 904

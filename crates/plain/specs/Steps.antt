@@ -6,7 +6,7 @@ use mathlib.Core.List.{List, [], _∷_, _++_}
 use lib.Dec.{eqb}
 use lib.ListN.{length, getD}
 use Rattle.plain.specs.Ops.{put, Request, Ran, declined, carryAt, markOf, leaves}
-use Rattle.plain.specs.Queue.{Entry, Item, idOf, opsOf, isExecuted, idIs, isConfirmed}
+use Rattle.plain.specs.Queue.{Entry, Item, booking, reading, idOf, opsOf, isExecuted, idIs, isConfirmed}
 use Rattle.plain.specs.Queue.{entryOf, without, owed, beforeWaiting}
 
 pub record Class : Type 0 where
@@ -14,7 +14,7 @@ pub record Class : Type 0 where
   pub committed : List ℕ
   pub working : List ℕ
 
--- What a call answers: the words of document 01's driving program, and look's two answers
+-- What a call answers: the words of document 01's driving program, look's two answers, a query's place, and what an entry of it reads
 pub data Answer : Type 0 where
   refused : (reason : ℕ) → Answer
   queued : (id class place slot : ℕ) → Answer
@@ -25,6 +25,8 @@ pub data Answer : Type 0 where
   value : (cell : ℕ) → Answer
   toDo : (w backs : ℕ) → Answer
   unconfirmed : (backs : ℕ) → Answer
+  begun : (place : ℕ) → Answer
+  entry : (place : ℕ) (cells : List ℕ) → Answer
 
 -- a step's outcome in a class
 pub record Did : Type 0 where
@@ -34,12 +36,14 @@ pub record Did : Type 0 where
 abbrev pub classWith : List Item → List ℕ → List ℕ → Class
 classWith q base w = record { queue = q; committed = base; working = w }
 
--- COMMIT. The working cells become the committed ones; the next request is the head
-abbrev pub ending : Item → Answer
-ending e = committed (idOf e) (e .number) (e .mark) (e .slot) (e .backs)
+-- COMMIT. The working cells become the committed ones; the next of the queue is the head. So ends a request, with its commit, and an entry of a
+-- query, with its reading, which leaves the cells
+abbrev pub ending : Item → List ℕ → Answer
+ending (booking e) w = committed (idOf e) (e .number) (e .mark) (e .slot) (e .backs)
+ending (reading p b) w = entry p w
 
 abbrev pub commit : Item → List Item → List ℕ → Did
-commit x rest w = record { class = classWith rest w w; answer = ending x }
+commit x rest w = record { class = classWith rest w w; answer = ending x w }
 
 -- OFFER. The request joins the end of the queue, waiting, with nothing done and never put back
 abbrev pub newEntry : Request → ℕ → Entry
@@ -47,7 +51,7 @@ newEntry r slot = record { request = r; slot = slot; number = 0; done = 0; mark 
 
 unfoldable pub offerStep : Request → ℕ → Class → Did
 offerStep r slot k = record {
-  class = classWith (k .queue ++ (newEntry r slot ∷ [])) (k .committed) (k .working);
+  class = classWith (k .queue ++ (booking (newEntry r slot) ∷ [])) (k .committed) (k .working);
   answer = queued (r .id) (r .class) (length (k .queue) + 1) slot;
 }
 
@@ -60,18 +64,19 @@ abbrev pub advanced : Entry → Ran → Entry
 advanced e t =
     record { request = e .request; slot = e .slot; number = e .number; done = suc (e .done); mark = markOf t; backs = e .backs }
 
--- if that was its last, a confirmed head commits, and a waiting head is executed and stays
+-- if that was its last, a confirmed head commits, and a waiting head is executed and stays. An entry of a query that is head is read and taken away
 abbrev pub worked : Entry → List Item → List ℕ → List ℕ → Did
 worked e rest base w =
-    cond (isExecuted e)
-    (cond (isConfirmed e)
-    (commit e rest w)
-    (record { class = classWith (e ∷ rest) base w; answer = executed (idOf e) }))
-    (record { class = classWith (e ∷ rest) base w; answer = stepped (idOf e) (e .done) })
+    cond (isExecuted (booking e))
+    (cond (isConfirmed (booking e))
+    (commit (booking e) rest w)
+    (record { class = classWith (booking e ∷ rest) base w; answer = executed (idOf e) }))
+    (record { class = classWith (booking e ∷ rest) base w; answer = stepped (idOf e) (e .done) })
 
 abbrev pub workOn : List Item → List ℕ → List ℕ → Did
 workOn [] base w = record { class = classWith [] base w; answer = refused 11 }
-workOn (e ∷ rest) base w = worked (advanced e (tried e w)) rest base (leaves (tried e w) base)
+workOn (reading p b ∷ rest) base w = record { class = classWith rest base w; answer = ending (reading p b) base }
+workOn (booking e ∷ rest) base w = worked (advanced e (tried e w)) rest base (leaves (tried e w) base)
 
 unfoldable pub workStep : Class → Did
 workStep k = workOn (k .queue) (k .committed) (k .working)
@@ -79,15 +84,23 @@ workStep k = workOn (k .queue) (k .committed) (k .working)
 -- there is no work where the queue is empty or its head executed
 abbrev pub idle : List Item → Bool
 idle [] = true
-idle (e ∷ rest) = isExecuted e
+idle (x ∷ rest) = isExecuted x
 
 -- CONFIRM. The request gets its number
+abbrev pub withNumber : ℕ → Entry → Entry
+withNumber n e = record { request = e .request; slot = e .slot; number = n; done = e .done; mark = e .mark; backs = e .backs }
+
 abbrev pub numbered : ℕ → Item → Item
-numbered n e = record { request = e .request; slot = e .slot; number = n; done = e .done; mark = e .mark; backs = e .backs }
+numbered n (booking e) = booking (withNumber n e)
+numbered n (reading p b) = reading p b
 
 -- put back: nothing done, not declined, and put back once more
+abbrev pub asPutBack : Entry → Entry
+asPutBack e = record { request = e .request; slot = e .slot; number = e .number; done = 0; mark = 0; backs = suc (e .backs) }
+
 abbrev pub putBack : Item → Item
-putBack e = record { request = e .request; slot = e .slot; number = e .number; done = 0; mark = 0; backs = suc (e .backs) }
+putBack (booking e) = booking (asPutBack e)
+putBack (reading p b) = reading p b
 
 -- a head that is another request, if it waits, is put back: the head, the working cells, and the id put back or 0
 abbrev pub backed : Item → Item
@@ -97,7 +110,8 @@ abbrev pub backCells : Item → List ℕ → List ℕ → List ℕ
 backCells x base w = cond (isConfirmed x) w base
 
 abbrev pub backId : Item → ℕ
-backId x = cond (isConfirmed x) 0 (idOf x)
+backId (booking e) = cond (isConfirmed (booking e)) 0 (idOf e)
+backId (reading p b) = 0
 
 -- the confirmed request moves to directly before the first waiting one; the others keep their order
 abbrev pub moved : ℕ → ℕ → List Item → List Item
@@ -118,3 +132,11 @@ confirmOn i n (x ∷ rest) base w =
 
 unfoldable pub confirmStep : ℕ → ℕ → Class → Did
 confirmStep i n k = confirmOn i n (k .queue) (k .committed) (k .working)
+
+-- QUERY. Its entry enters before the waiting, and a head that waits is put back, as in confirm
+abbrev pub queryOn : Item → List Item → List ℕ → List ℕ → Class
+queryOn y [] base w = classWith (y ∷ []) base w
+queryOn y (x ∷ rest) base w = classWith (beforeWaiting y (backed x ∷ rest)) base (backCells x base w)
+
+unfoldable pub queryStep : (place begun : ℕ) → Class → Class
+queryStep p b k = queryOn (reading p b) (k .queue) (k .committed) (k .working)

@@ -3,7 +3,7 @@ use Prim.Native.Nat.{ℕ}
 use mathlib.Core.Path.{_≡_, subst}
 use mathlib.Core.List.{List}
 use Rattle.plain.specs.Steps.{Answer}
-use Rattle.plain.specs.Site.{Call, offer, confirm, work, read, look}
+use Rattle.plain.specs.Site.{Call, offer, confirm, work, read, look, query}
 use Rattle.store.specs.Store.{Store, Shaped}
 use Rattle.store.specs.Calls.{State, Called, Started}
 use Rattle.promises.specs.Runs.{Happens}
@@ -17,6 +17,7 @@ of-kind (confirm i n) e = promises .demand-3 e
 of-kind (work c) e = tt
 of-kind (read c k) e = tt
 of-kind (look i) e = tt
+of-kind (query m) e = λ h f a. promises .queried f e a
 
 by-promises : {x y : State} {k : Call} {a : Answer} → Happens x k y a → Promised x k y a
 by-promises {k = k} e = record {

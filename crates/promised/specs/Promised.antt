@@ -6,19 +6,21 @@ use mathlib.Core.List.{List, [], _∷_}
 use lib.ListN.{length}
 use Rattle.plain.specs.Sizes.{classCount}
 use Rattle.plain.specs.Steps.{Answer}
-use Rattle.plain.specs.Site.{Call, offer, confirm, work, read, look}
+use Rattle.plain.specs.Site.{Call, offer, confirm, work, read, look, query}
 use Rattle.store.specs.Store.{Store, runSize}
 use Rattle.store.specs.Calls.{State, RightCells, Started}
 use Rattle.promises.specs.Runs.{Happens, Ready, Accepted, onCells, Run, FromFresh}
-use Rattle.promises.specs.Demands.{Demand1, Demand2, Demand3, KeepsSlot}
+use Rattle.promises.specs.Demands.{Demand1, Demand2, Demand3, KeepsSlot, Queried}
 
--- what is promised of one kind of call alone: THE SLOT PROMISE of an accepted offer, DEMAND 3 of an accepted confirmation
+-- what is promised of one kind of call alone: THE SLOT PROMISE of an accepted offer, DEMAND 3 of an accepted confirmation, THE QUERY'S PROMISE of an
+-- accepted query on a site that came from fresh
 abbrev pub OfItsKind : State → Call → State → Answer → Type 0
 OfItsKind x (offer b) y a = Accepted a → KeepsSlot b y a
 OfItsKind x (confirm i n) y a = Accepted a → Demand3 x i n y a
 OfItsKind x (work c) y a = Unit
 OfItsKind x (read c k) y a = Unit
 OfItsKind x (look i) y a = Unit
+OfItsKind x (query m) y a = (h : List Call) → FromFresh h x → Accepted a → Queried h x m y a
 
 -- A CALL k on x hands back y and answers a
 pub record Promised (x : State) (k : Call) (y : State) (a : Answer) : Type 0 where

@@ -2,12 +2,12 @@
 -- requests queued, W is at most 896, and a mark at most 7. Assumes nothing.
 use Prim.Native.Nat.{ℕ, _+_, _≤_}
 use native.Mathlib.Omega.{arith}
-use mathlib.Core.Path.{_≡_, sym, ap, _∙_, subst}
-use mathlib.Core.Bool.{Bool, true}
+use mathlib.Core.Path.{_≡_, sym, ap, _∙_, subst, refl}
+use mathlib.Core.Bool.{Bool, true, false}
 use mathlib.Core.List.{List}
 use Rattle.plain.specs.Sizes.{mostOps, mostW}
 use Rattle.plain.specs.Ops.{Request}
-use Rattle.plain.specs.Queue.{count, owed}
+use Rattle.plain.specs.Queue.{Item, Entry, booking, reading, count, owed}
 use Rattle.plain.specs.Steps.{Answer, refused, committed, toDo, unconfirmed}
 use Rattle.plain.specs.Site as P
 use Rattle.plain.specs.Site.{Call, confirm, look, call, act, accepts, refusal, standing, classOf, entryAt, confirmedAt, backsAt}
@@ -21,7 +21,7 @@ use Rattle.plain.proofs.Logs as L
 use Rattle.store.specs.Store.{Store}
 use Rattle.store.specs.Calls.{State, RightCells, SoundState, Started, plainOf}
 use Rattle.store.proofs.Promise.{same-standing}
-use Rattle.promises.specs.Runs.{Happens, Ready, FromFresh}
+use Rattle.promises.specs.Runs.{asks, Happens, Ready, FromFresh}
 use Rattle.promises.proofs.Answers.{refused-answers}
 use Rattle.promises.proofs.Stands.{by-contract, plain-sound, begun, begins, answers-there, stands-fresh}
 
@@ -41,12 +41,21 @@ pub answers : {h : List Call} {y z : State} {k : Call} {a : Answer} → FromFres
 unfolding after
 answers f e = answers-there (stands-fresh f) e .0
 
+-- a test that only such requests pass is that one
+same-test : (f : Request → Bool) (g : Item → Bool) → ((e : Entry) → g (booking e) ≡ f (e .request)) → ((p b : ℕ) → g (reading p b) ≡ false) → g ≡ asks f
+same-test f g h k = λ i. λ x. each x i
+  where
+    each : (x : Item) → g x ≡ asks f x
+    each (booking e) = h e
+    each (reading p b) = k p b
+
 pub accepted : {h : List Call} {y : State} → FromFresh h y → (f : Request → Bool)
-    → count f (offers h) ≡ count f (commits h) + standing (λ e. f (e .request)) (plainOf y)
+    → count f (offers h) ≡ count f (commits h) + standing (asks f) (plainOf y)
 unfolding after
 accepted {h} {y} u f =
-    let q = same-standing (plainOf y) (after h) (stands-fresh u .same) (λ e. f (e .request)) in
-    L.accepted f h ∙ ap (λ (n : ℕ). count f (commits h) + n) (sym q)
+    let q = same-standing (plainOf y) (after h) (stands-fresh u .same) (asks f) in
+    L.accepted f h ∙ ap (λ (g : Item → Bool). count f (commits h) + standing g (after h)) (same-test f _ (λ e. refl) (λ p b. refl))
+    ∙ ap (λ (n : ℕ). count f (commits h) + n) (sym q)
 
 -- W, where the call acts; a refusal says 0
 pub w-bounded : {x y : State} {i n : ℕ} {a : Answer} → Happens x (confirm i n) y a → wOf a ≤ mostW

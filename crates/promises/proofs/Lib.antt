@@ -10,5 +10,6 @@ pub mod Unique
 pub mod Kept
 pub mod KeptOut
 pub mod PutBacks
+pub mod Queried
 pub mod Local
 pub mod Promises

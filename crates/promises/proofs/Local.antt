@@ -6,8 +6,8 @@ use mathlib.Core.List.{List}
 use Rattle.plain.specs.Record.{requestIn}
 use Rattle.plain.specs.Queue.{has}
 use Rattle.plain.specs.Steps.{Answer}
-use Rattle.plain.specs.Site.{Call, offer, work, confirm, read, isQueued}
-use Rattle.plain.specs.Demands.{Shares, ActAlike, home}
+use Rattle.plain.specs.Site.{Call, offer, work, confirm, read, query, isQueued}
+use Rattle.plain.specs.Demands.{Shares, SharesQueries, ActAlike, For}
 use Rattle.plain.proofs.Locality as L
 use Rattle.store.specs.Calls.{State, plainOf}
 use Rattle.promises.specs.Runs.{Happens, Ready}
@@ -35,7 +35,10 @@ pub confirm-alike : {x x′ : State} {i n c : ℕ} → Ready x → Ready x′ �
     → (isQueued (plainOf x) i ≡ true → has i (plainOf x .class c .queue) ≡ true) → Alike x x′ c (confirm i n)
 confirm-alike {x} {x′} {i} {n} {c} r r′ l h here = carried r r′ l (L.confirm-local (plainOf x) (plainOf x′) c h i n here l)
 
-pub others-left : {x y : State} {k : Call} {a : Answer} → Happens x k y a → (c : ℕ) → c < 16 → (c ≡ home (plainOf x) k → ⊥) → Agree y x c
+pub query-alike : {x x′ : State} {m c : ℕ} → Ready x → Ready x′ → c < 16 → SharesQueries (plainOf x) (plainOf x′) c → Alike x x′ c (query m)
+query-alike {x} {x′} {m} {c} r r′ l h = carried r r′ l (L.query-local (plainOf x) (plainOf x′) c h m)
+
+pub others-left : {x y : State} {k : Call} {a : Answer} → Happens x k y a → (c : ℕ) → c < 16 → (For (plainOf x) k c → ⊥) → Agree y x c
 others-left {x} {k = k} e c l n =
     by-contract e
     (λ r d. d .site .class c l ∙ L.others-left (plainOf x) k c n)

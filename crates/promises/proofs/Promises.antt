@@ -8,6 +8,7 @@ use Rattle.promises.proofs.Unique as U
 use Rattle.promises.proofs.Kept as K
 use Rattle.promises.proofs.KeptOut as O
 use Rattle.promises.proofs.PutBacks as B
+use Rattle.promises.proofs.Queried as Q
 use Rattle.promises.proofs.Local as L
 
 pub promises : Promises
@@ -25,6 +26,11 @@ promises = record {
   put-backs = B.put-backs;
   put-backs-shown = B.put-backs-shown;
   put-backs-committed = B.put-backs-committed;
+  queried = Q.queried;
+  one-point = Q.one-point;
+  same-point = Q.same-point;
+  only-work-reads = Q.only-work-reads;
+  keeps-w = Q.keeps-w;
   fresh-ready = K.fresh-ready;
   stays-sound = K.stays-sound;
   stays-right = K.stays-right;
@@ -36,6 +42,7 @@ promises = record {
   read-alike = L.read-alike;
   offer-alike = L.offer-alike;
   confirm-alike = L.confirm-alike;
+  query-alike = L.query-alike;
   others-left = L.others-left;
   one-outcome = U.one-outcome;
   one-fresh = U.one-fresh;

@@ -1,5 +1,5 @@
--- From fresh the count in a used slot is how many accepted confirmations put its request back since its offer, and look and a commit answer it.
--- Assumes nothing.
+-- From fresh the count in a used slot is how many accepted confirmations and queries put its request back since its offer, and look and a commit answer
+-- it. Assumes nothing.
 use Prim.Native.Nat.{ℕ, _<_}
 use mathlib.Core.Path.{_≡_, sym, ap, subst}
 use mathlib.Core.Logic.{_⊎_, inl, inr}
@@ -8,7 +8,7 @@ use mathlib.Core.List.{List}
 use Rattle.plain.specs.Queue.{Entry, idOf}
 use Rattle.plain.specs.Steps.{Class, Answer, committed}
 use Rattle.plain.specs.Site.{Call, look}
-use Rattle.plain.specs.Sound.{All}
+use Rattle.plain.specs.Sound.{All, OfRequest}
 use Rattle.plain.specs.History.{after, putBacks}
 use Rattle.plain.specs.Demands.{Shows}
 use Rattle.plain.proofs.Tests.{no}
@@ -34,12 +34,12 @@ put-backs {h} {y} f j l u = go (stands-fresh f .sound .laid .free-or-valid j l)
     Counts : Entry → Type 0
     Counts e = e .backs ≡ putBacks (idOf e) h
 
-    all : (c : ℕ) → c < 16 → All Counts (queueOf (y .site) c)
-    all c m = subst (All Counts) (queue-there f c m) (counted-back h .of-queued c m)
+    all : (c : ℕ) → c < 16 → All (OfRequest Counts) (queueOf (y .site) c)
+    all c m = subst (All (OfRequest Counts)) (queue-there f c m) (counted-back h .of-queued c m)
 
     go : (slotAt (y .site .slots) j ≡ freeSlot) ⊎ Holds (slotAt (y .site .slots) j) → slotAt (y .site .slots) j .backs ≡ putBacks (slotAt (y .site .slots) j .id) h
     go (inl e) = no _ u (ap isUsed e)
-    go (inr v) = held-queued (y .site) (stands-fresh f .sound .laid) Counts all j v
+    go (inr v) = held-queued (y .site) (stands-fresh f .sound .laid) (OfRequest Counts) all j l v
 
 pub put-backs-shown : {h : List Call} {y z : State} {a : Answer} {i b : ℕ} → FromFresh h y → Happens y (look i) z a → Shows a b → b ≡ putBacks i h
 put-backs-shown {h} {i = i} {b = b} f e s = counted-back h .of-looked i b (subst (λ (a : Answer). Shows a b) (answers f e) s)

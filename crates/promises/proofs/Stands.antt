@@ -51,7 +51,7 @@ pub acted : {x y : State} {k : Call} {a : Answer} → Happens x k y a → Accept
 acted {a = a} e t = by-contract e (λ r d. r) (λ n d. never-refused a n t (d .answer))
 
 pub plain-sound : {x : State} → Shaped (x .site) → SoundState x → SoundSite (plainOf x)
-plain-sound {x} v s = to-plain (x .site) (v .slots) (s .laid) (x .committed) (x .working) s
+plain-sound {x} v s = to-plain (x .site) (v .slots) (v .queries) (s .laid) (x .committed) (x .working) s
 
 -- a call that was given wrong cells leaves the run where it was
 pub left : {y z : State} {k : Call} {a : Answer} (base wrk : List ℕ) → (RightCells (onCells y base wrk) → ⊥) → Happens (onCells y base wrk) k z a

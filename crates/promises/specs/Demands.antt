@@ -7,14 +7,18 @@ use mathlib.Core.List.{List}
 use lib.ListN.{length, take}
 use Rattle.plain.specs.Ops.{Request, runAll}
 use Rattle.plain.specs.Record.{requestIn}
-use Rattle.plain.specs.Steps.{Answer, refused, queued, toDo}
-use Rattle.plain.specs.Site.{Call, work, look, zeros, classOf, entryAt, backsAt, tests, row, refusal}
+use Rattle.plain.specs.Steps.{Answer, refused, queued, toDo, begun, entry}
+use Rattle.plain.specs.Site.{Call, work, look, named, zeros, classOf, entryAt, backsAt, tests, row, refusal}
 use Rattle.plain.specs.Sound.{All}
 use Rattle.plain.specs.History.{confirmations, confirmedIn, committedIn}
-use Rattle.plain.specs.Demands.{Commits, Counted, wOf, Keeps, Frees, Gives}
+use Rattle.plain.specs.Demands.{Commits, Counted, wOf, Keeps, Frees, Gives, LowestFree, ahead, cellsAfter}
 use Rattle.store.specs.Meaning.{cellsOf}
 use Rattle.store.specs.Calls.{State, RightCells, SoundState, plainOf}
 use Rattle.promises.specs.Runs.{Happens, Ready, Accepted, Run, start, more, wrong, worksIn}
+
+-- the numbers of the table, but 1 and 2
+abbrev pub Listed : ℕ → Type 0
+Listed n = (3 ≤ n) × (n ≤ 24) × (n ≡ 13 → ⊥) × (14 < n → n < 17 → ⊥) × (18 < n → n < 24 → ⊥)
 
 -- DEMAND 1, of a call k on x that handed back y and answered a: each refusal is given exactly when document 01's table says so, and touches nothing
 pub record Demand1 (x : State) (k : Call) (y : State) (a : Answer) : Type 0 where
@@ -22,9 +26,9 @@ pub record Demand1 (x : State) (k : Call) (y : State) (a : Answer) : Type 0 wher
   pub cells : (a ≡ refused 1) ↔ (RightCells x → ⊥)
   -- else 2 exactly when the site is not sound
   pub sound : RightCells x → (a ≡ refused 2) ↔ (SoundState x → ⊥)
-  -- else n, from 3 to 12 or 14, exactly when the table gives it, and where several apply the first in the table
+  -- else n, from 3 to 12 or one of 14, 17, 18 and 24, exactly when the table gives it, and where several apply the first in the table
   pub table : Ready x → (n : ℕ) → 0 < n → (a ≡ refused n) ↔ (refusal (plainOf x) k ≡ n)
-  pub numbers : Ready x → (n : ℕ) → a ≡ refused n → (3 ≤ n) × (n ≤ 14) × (n ≡ 13 → ⊥)
+  pub numbers : Ready x → (n : ℕ) → a ≡ refused n → Listed n
   pub in-order : Ready x → (n : ℕ) → a ≡ refused n → All (λ t. t .0 ≡ true → row n ≤ row (t .1)) (tests (plainOf x) k)
   -- no slot, no queue, no cell
   pub untouched : (n : ℕ) → a ≡ refused n → y ≡ x
@@ -58,6 +62,25 @@ pub record Demand3 (x : State) (i n : ℕ) (y : State) (a : Answer) : Type 0 whe
   pub at-once : wOf a ≡ 0 → Commits a i n
   pub later : 0 < wOf a → (h : List Call) (z : State) (r : Run y h z) → worksIn (classOf (plainOf x) i) r < wOf a
       → Waits z (classOf (plainOf x) i) i n (backsAt (entryAt (plainOf x) i)) (wOf a) (worksIn (classOf (plainOf x) i) r)
+
+-- What holds after x accepted work calls for class c, of the W that the entry of the query with place p was from its reading, while x is less than W
+pub record ReadsAt (z : State) (c p : ℕ) (cells : List ℕ) (W x : ℕ) : Type 0 where
+  -- a work call for the class is not refused
+  pub works : (z′ : State) (a : Answer) → Happens z (work c) z′ a → Accepted a
+  -- and it reads the entry exactly if it is the W-th
+  pub reads : suc x ≡ W → (z′ : State) (a : Answer) → Happens z (work c) z′ a → a ≡ entry p cells
+  pub no-sooner : suc x < W → (z′ : State) (a : Answer) (l : List ℕ) → Happens z (work c) z′ a → a ≡ entry p l → ⊥
+
+-- THE QUERY'S PROMISE, of an accepted query of mask m on x, which came from fresh by the calls h, that handed back y and answered a: the answer names the
+-- lowest of the places 1 to 8 that was free; and in each class that it names, after any further calls, its entry stands until as many work calls for the
+-- class were accepted as were ahead of it on x, and the next one reads it: it gives the cells got by running one after another, from zeros, the
+-- requests of the class that were confirmed in h
+pub record Queried (h : List Call) (x : State) (m : ℕ) (y : State) (a : Answer) : Type 0 where
+  pub place : ℕ
+  pub says : a ≡ begun place
+  pub lowest-free : LowestFree (plainOf x) place
+  pub later : (c : ℕ) → named m c ≡ true → (g : List Call) (z : State) (r : Run y g z) → worksIn c r < suc (ahead (plainOf x) c)
+      → ReadsAt z c place (cellsAfter h c) (suc (ahead (plainOf x) c)) (worksIn c r)
 
 -- in a run a request was given slot j
 abbrev pub GivenIn : {x y : State} {h : List Call} → Run x h y → ℕ → Type 0

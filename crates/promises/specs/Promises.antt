@@ -4,21 +4,21 @@ use mathlib.Core.Path.{_≡_}
 use mathlib.Core.Logic.{_↔_}
 use mathlib.Core.Bool.{Bool, true, not}
 use mathlib.Core.List.{List, _∷_, _++_}
-use lib.ListN.{length}
+use lib.ListN.{length, take}
 use Rattle.plain.specs.Sizes.{classCount, slotCount, keptCount, mostOps, mostW}
 use Rattle.plain.specs.Ops.{Request}
 use Rattle.plain.specs.Record.{requestIn}
 use Rattle.plain.specs.Queue.{count, has}
-use Rattle.plain.specs.Steps.{Answer, committed, toDo}
-use Rattle.plain.specs.Site.{Call, offer, work, confirm, read, look, call, standing, isFree, isQueued}
+use Rattle.plain.specs.Steps.{Answer, committed, toDo, entry}
+use Rattle.plain.specs.Site.{Call, offer, work, confirm, read, look, query, call, standing, isFree, isQueued}
 use Rattle.plain.specs.History.{after, offers, confirmations, commits, committedIn, putBacks}
-use Rattle.plain.specs.Demands.{Shares, Shows, home, wOf}
+use Rattle.plain.specs.Demands.{Shares, SharesQueries, Shows, For, Counted, cellsAfter, wOf}
 use Rattle.slots.specs.Meaning.{isUsed, slotAt}
 use Rattle.store.specs.Store.{Store, runSize}
 use Rattle.store.specs.Meaning.{cellsOf}
 use Rattle.store.specs.Calls.{State, RightCells, SoundState, Started, plainOf}
-use Rattle.promises.specs.Runs.{Happens, Ready, Accepted, Run, FromFresh}
-use Rattle.promises.specs.Demands.{Demand1, Demand2, Demand3, KeepsSlot, KeptOut}
+use Rattle.promises.specs.Runs.{Happens, asks, Ready, Accepted, Run, FromFresh}
+use Rattle.promises.specs.Demands.{Demand1, Demand2, Demand3, KeepsSlot, KeptOut, Queried}
 
 -- two sites agree in class c: in its queue, its slots' numbers and contents, and its cells
 abbrev pub Agree : State → State → ℕ → Type 0
@@ -51,13 +51,24 @@ pub record Promises : Type 0 where
   pub kept-out : {h : List Call} {y z : State} {b : List ℕ} {a : Answer} → FromFresh h y → Happens y (offer b) z a
       → (before behind : List (ℕ × Request)) (n : ℕ) (r : Request) → confirmations h ≡ before ++ (n, r) ∷ behind → length behind < keptCount
       → requestIn b .id ≡ r .id → KeptOut a
-  -- PUT BACK. From fresh, over any calls, the count in a used slot is how many accepted confirmations have put its request back since its offer, and
-  -- look and a commit answer it
+  -- PUT BACK. From fresh, over any calls, the count in a used slot is how many accepted confirmations and queries have put its request back since its offer,
+  -- and look and a commit answer it
   pub put-backs : {h : List Call} {y : State} → FromFresh h y → (j : ℕ) → j < slotCount → isUsed (slotAt (y .site .slots) j) ≡ true
       → slotAt (y .site .slots) j .backs ≡ putBacks (slotAt (y .site .slots) j .id) h
   pub put-backs-shown : {h : List Call} {y z : State} {a : Answer} {i b : ℕ} → FromFresh h y → Happens y (look i) z a → Shows a b → b ≡ putBacks i h
   pub put-backs-committed : {h : List Call} {y z : State} {k : Call} {i n m j b : ℕ} → FromFresh h y → Happens y k z (committed i n m j b)
       → b ≡ putBacks i h
+  -- THE QUERY'S PROMISE, of every accepted query after a run from fresh. All its entries show the class's cells after the same numbers: those up to the
+  -- count of confirmations at its beginning, also where more were given since; so two sites that confirmed the same requests under these numbers show
+  -- the same cells. Only a work call reads an entry. And a request confirmed before a query keeps its W
+  pub queried : {h : List Call} {x y : State} {m : ℕ} {a : Answer} → FromFresh h x → Happens x (query m) y a → Accepted a → Queried h x m y a
+  pub one-point : {h : List Call} {x : State} → FromFresh h x → (g : List Call)
+      → (Counted 0 (confirmations (g ++ h))) × (take (x .site .confirmations) (confirmations (g ++ h)) ≡ confirmations h)
+  pub same-point : (h h′ : List Call) → confirmations h ≡ confirmations h′ → (c : ℕ) → cellsAfter h c ≡ cellsAfter h′ c
+  pub only-work-reads : {x y : State} {k : Call} {p : ℕ} {l : List ℕ} → Happens x k y (entry p l)
+      → (c : ℕ) × (k ≡ work c) × (c < classCount) × RightCells y
+  pub keeps-w : {x y z z′ : State} {m i v b : ℕ} {a : Answer} → Ready x → Happens x (look i) z (toDo v b) → Happens x (query m) y a
+      → (a′ : Answer) → Happens y (look i) z′ a′ → a′ ≡ toDo v b
   -- SOUND SITES. A fresh site is sound, and every call leaves a sound site sound, and its cells right
   pub fresh-ready : {base wrk base′ wrk′ : List ℕ} {t : Store} → Started base wrk t 0 base′ wrk′
       → Ready (record { site = t; committed = base′; working = wrk′ })
@@ -65,8 +76,8 @@ pub record Promises : Type 0 where
   pub stays-right : {x y : State} {k : Call} {a : Answer} → Happens x k y a → RightCells x → RightCells y
   -- from fresh the requests accepted so far are the commits plus the requests queued, also those alone that pass any test
   pub accepted : {h : List Call} {y : State} → FromFresh h y → (f : Request → Bool)
-      → count f (offers h) ≡ count f (commits h) + standing (λ e. f (e .request)) (plainOf y)
-  -- W is at most 896, in confirm's answer and in look's
+      → count f (offers h) ≡ count f (commits h) + standing (asks f) (plainOf y)
+  -- W is at most 904, in confirm's answer and in look's
   pub w-bounded : {x y : State} {i n : ℕ} {a : Answer} → Happens x (confirm i n) y a → wOf a ≤ mostW
   pub left-bounded : {x y : State} {i w b : ℕ} → Happens x (look i) y (toDo w b) → w ≤ mostW
   -- a commit's mark is 0 or the place of an operation, 1 to 7
@@ -79,8 +90,10 @@ pub record Promises : Type 0 where
       → requestIn b .class ≡ c → Alike x x′ c (offer b)
   pub confirm-alike : {x x′ : State} {i n c : ℕ} → Ready x → Ready x′ → c < classCount → Shares (plainOf x) (plainOf x′) c
       → (isQueued (plainOf x) i ≡ true → has i (plainOf x .class c .queue) ≡ true) → Alike x x′ c (confirm i n)
+  -- a query shares three things with the other classes: the places in use, the count of confirmations, the queries begun
+  pub query-alike : {x x′ : State} {m c : ℕ} → Ready x → Ready x′ → c < classCount → SharesQueries (plainOf x) (plainOf x′) c → Alike x x′ c (query m)
   -- and a call leaves the other classes as they are
-  pub others-left : {x y : State} {k : Call} {a : Answer} → Happens x k y a → (c : ℕ) → c < classCount → (c ≡ home (plainOf x) k → ⊥) → Agree y x c
+  pub others-left : {x y : State} {k : Call} {a : Answer} → Happens x k y a → (c : ℕ) → c < classCount → (For (plainOf x) k c → ⊥) → Agree y x c
   -- ONE OUTCOME. Any two outcomes of a call are equal, any two of fresh, and so the ends of any two runs of the same calls
   pub one-outcome : {x y z : State} {k : Call} {a b : Answer} → Happens x k y a → Happens x k z b → (y ≡ z) × (a ≡ b)
   pub one-fresh : {base wrk base′ wrk′ base″ wrk″ : List ℕ} {t u : Store} {n m : ℕ} → Started base wrk t n base′ wrk′

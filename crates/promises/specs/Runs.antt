@@ -3,7 +3,9 @@ use Prim.Native.Nat.{ℕ, _+_}
 use mathlib.Core.Path.{_≡_}
 use mathlib.Core.Bool.{Bool, true, false, cond, _&&_}
 use mathlib.Core.List.{List, [], _∷_}
-use Rattle.plain.specs.Steps.{Answer, refused, queued, stepped, executed, committed, waiting, value, toDo, unconfirmed}
+use Rattle.plain.specs.Steps.{Answer, refused, queued, stepped, executed, committed, waiting, value, toDo, unconfirmed, begun, entry}
+use Rattle.plain.specs.Ops.{Request}
+use Rattle.plain.specs.Queue.{Item, booking, reading}
 use Rattle.plain.specs.Site.{Call}
 use Rattle.plain.specs.History.{isWork}
 use Rattle.store.specs.Store.{Shaped}
@@ -22,6 +24,11 @@ pub record Happens (x : State) (k : Call) (y : State) (a : Answer) : Type 0 wher
 abbrev pub Ready : State → Type 0
 Ready x = RightCells x × SoundState x
 
+-- what stands in a queue is a request that passes a test
+abbrev pub asks : (Request → Bool) → Item → Bool
+asks f (booking e) = f (e .request)
+asks f (reading p b) = false
+
 -- is the answer no refusal?
 abbrev pub isAccepted : Answer → Bool
 isAccepted (refused n) = false
@@ -33,6 +40,8 @@ isAccepted (waiting i w b) = true
 isAccepted (value x) = true
 isAccepted (toDo w b) = true
 isAccepted (unconfirmed b) = true
+isAccepted (begun p) = true
+isAccepted (entry p l) = true
 
 abbrev pub Accepted : Answer → Type 0
 Accepted a = isAccepted a ≡ true

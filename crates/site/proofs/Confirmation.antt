@@ -1,5 +1,5 @@
 -- What is known of a request that may be confirmed: where it stands, that it may commit, and that it may move. Assumes nothing.
-use Prim.Native.Nat.{ℕ, _+_, _<_, _≤_}
+use Prim.Native.Nat.{ℕ, _+_, _*_, _<_, _≤_}
 use native.Mathlib.Omega.{arith}
 use mathlib.Core.Path.{_≡_, refl, ap, subst, sym}
 use mathlib.Core.Logic.{_⊎_, inl, inr}
@@ -11,7 +11,6 @@ use Rattle.store.specs.Store.{Store, Shaped}
 use Rattle.store.specs.Meaning.{lenOf}
 use Rattle.store.specs.Calls.{State, Did}
 use Rattle.store.specs.Steps.{headSlot, numberedStore, PlaceOf, FirstWaiting, Backable, Commitable, CommitDone, PutBack, Forward}
-use Rattle.store.proofs.Commit.{head-small}
 use Rattle.store.proofs.Confirming.{class-here, stands-once, queue-some, may-be-put-back, may-commit, committed-now}
 use Rattle.store.proofs.Confirmed.{Movable, forward, Goes, itself, behind-confirmed, head-put-back}
 use Rattle.store.proofs.Work.{work-left}
@@ -40,11 +39,15 @@ module _ (x : State) (w : Shaped (x .site)) (i : ℕ) (f : Confirmable x i) wher
     stands = omega (arith, stands-once x w (f .right) (f .sound) id n (f .more) refl i (f .small) refl (f .used) (f .waits));
   }
 
-  pub first-small : headSlot (x .site) c < 128
-  first-small = head-small (x .site) w (f .sound .laid) c small-class some-queued
+  -- where all wait, the head is a request that waits
+  pub head-waits : (to : ℕ) → FirstWaiting (x .site) c to → to ≡ 0
+      → (headSlot (x .site) c < 128) × (slotAt (x .site .slots) (headSlot (x .site) c) .number ≡ 0)
+  head-waits to q z =
+      let a : 136 * c + to ≡ 136 * c = omega arith in
+      rw a at (q .waits (omega (arith, some-queued)))
 
-  pub may-back : Backable (x .site) (x .committed) (x .working) c
-  may-back = may-be-put-back x w (f .right) (f .sound) id n (f .more) c small-class some-queued
+  pub may-back : x .site .begun ≤ 4294967295 → headSlot (x .site) c < 128 → Backable (x .site) (x .committed) (x .working) c
+  may-back b m = may-be-put-back x w (f .right) (f .sound) id n (omega (arith, f .more)) (omega arith) c small-class some-queued m
 
   pub movable : (from to : ℕ) → PlaceOf (x .site) c i from → FirstWaiting (x .site) c to → Movable x id n i from to
   movable from to p q = record {
@@ -81,17 +84,18 @@ module _ (x : State) (w : Shaped (x .site)) (i : ℕ) (f : Confirmable x i) wher
     pub not-back : to ≤ from
     not-back = forward x w (f .right) (f .sound) id n i from to (movable from to p q)
 
-    pub put-back-gone : (hd ≡ i → ⊥) → slotAt (x .site .slots) hd .number ≡ 0 → (a : Store) (wrk′ : List ℕ) → PutBack (x .site) (x .committed) (x .working) c a wrk′
+    pub put-back-gone : (hd ≡ i → ⊥) → to ≡ 0 → (a : Store) (wrk′ : List ℕ) → PutBack (x .site) (x .committed) (x .working) c a wrk′
         → (t : Store) → Forward a c i (a .confirmations + 1) from to t → Gone t wrk′ (slotAt (x .site .slots) hd .id)
     put-back-gone ne z a wrk′ b t d =
-        head-put-back x w (f .right) (f .sound) id n i from to (movable from to p q) ne z a wrk′ b t
+        head-put-back x w (f .right) (f .sound) id n i from to (movable from to p q) ne (head-waits to q z .0) (head-waits to q z .1) a wrk′ b t
         (subst (λ (m : ℕ). Forward a c i (m + 1) from to t) (ap (λ (z : Store). z .confirmations) (b .is)) d)
 
-    pub stayed-gone : (HeadDone (x .site) i → ⊥) → (hd ≡ i) ⊎ ((hd ≡ i → ⊥) × (slotAt (x .site .slots) hd .number ≡ 0 → ⊥))
+    pub stayed-gone : (HeadDone (x .site) i → ⊥) → (hd ≡ i) ⊎ ((hd ≡ i → ⊥) × (to ≡ 0 → ⊥))
         → (t : Store) → Forward (x .site) c i n from to t → Gone t (x .working) 0
     stayed-gone not-done (inl e) t d =
         itself x w (f .right) (f .sound) id n i from to (movable from to p q) t d e
         (subst (λ (j : ℕ). slotAt (x .site .slots) j .done < slotAt (x .site .slots) j .count) e
-        (work-left x w (f .right) (f .sound) c small-class some-queued (λ z. not-done (e, subst (λ (j : ℕ). slotAt (x .site .slots) j .done ≡ slotAt (x .site .slots) j .count) e z))))
+        (work-left x w (f .right) (f .sound) c small-class some-queued (rw e (f .small)) (λ z. not-done (e, subst (λ (j : ℕ). slotAt (x .site .slots) j .done ≡ slotAt (x .site .slots) j .count) e z))))
     stayed-gone not-done (inr k) t d =
-        behind-confirmed x w (f .right) (f .sound) id n i from to (movable from to p q) t d (k .0) (omega (arith, k .1))
+        behind-confirmed x w (f .right) (f .sound) id n i from to (movable from to p q) t d (k .0)
+        (let z : 136 * c + 0 ≡ 136 * c = omega arith in rw z at (q .before 0 (omega (arith, k .1))))

@@ -13,7 +13,9 @@ use Rattle.site.specs.declared.Site.{Site}
 use Rattle.site.specs.Held.{store}
 use Rattle.slots.specs.declared.Slot.{Slot}
 use Rattle.slots.specs.Meaning.{slotAt}
-use Rattle.store.specs.Store.{Shaped}
+use Rattle.store.specs.Store.{Shaped, queryAt}
+use Rattle.queries.specs.declared.Query.{Query}
+use Rattle.queries.proofs.Query as M
 use Rattle.site.proofs.Site as T
 use Rattle.slots.proofs.Slot as L
 use Rattle.slots.proofs.Shape.{seven, id-fits}
@@ -27,6 +29,14 @@ module _ (P : Slot → Type 0) (say : (v : Slot) (vs : List Val) → Is (Declare
   each-slot (v ∷ l) (u ∷ us) g zero h = say v _ (g .0)
   each-slot (v ∷ l) (u ∷ us) g (suc i) h = each-slot l us (g .1) i (omega arith)
 
+-- and of each query; what stands past the end is free
+each-mask : (l : List Query) (us : List Val) → shadow (each (M.the-field .row .Denot) (M.the-field .row .own) (map (M.the-field .into) l) us)
+    → (p : ℕ) → queryAt l p .classes < 2 ^ 16
+each-mask [] us g p = omega arith
+each-mask (v ∷ l) [] g p = absurd g
+each-mask (v ∷ l) (u ∷ us) g zero = g .0 .1 .1 .0 .1
+each-mask (v ∷ l) (u ∷ us) g (suc p) = each-mask l us (g .1) p
+
 pub shaped : (s : Site) (vs : List Val) → Is (Declared.row T.the-type) s vs → Shaped (store s)
 shaped s vs g =
     let n : length (s .slots) ≡ 128 = sym (length-map (s .slots) _) ∙ g .1 .1 .0 .1 .0 .1 in
@@ -39,4 +49,6 @@ shaped s vs g =
       low = g .1 .1 .1 .1 .1 .0 .1;
       high = g .1 .1 .1 .1 .1 .1 .0 .1;
       kept = sym (length-map (s .kept) _) ∙ g .1 .1 .1 .1 .1 .1 .1 .1 .1 .0 .1 .0 .1;
+      queries = sym (length-map (s .queries) _) ∙ g .1 .1 .1 .1 .1 .1 .1 .1 .1 .1 .0 .1 .0 .1;
+      masks = each-mask (s .queries) _ (g .1 .1 .1 .1 .1 .1 .1 .1 .1 .1 .0 .1 .1);
     }

@@ -7,6 +7,7 @@ use lib.ListN.{set}
 use Rattle.plain.specs.Steps as K
 use Rattle.plain.specs.Site.{Call}
 use Rattle.usedmap.specs.Flags.{usedOf}
+use Rattle.queries.specs.Table.{lowestFree}
 use Rattle.slots.specs.declared.Slot.{Slot}
 use Rattle.slots.specs.Meaning.{slotAt}
 use Rattle.store.specs.Store.{Store}
@@ -29,23 +30,27 @@ store s = record {
   confirmations = s .confirmations;
   commits = s .commits;
   kept = s .kept;
+  queries = s .queries;
+  begun = s .begun;
 }
 
 -- a site with its two runs of cells
 abbrev pub stateOf : Site → List ℕ → List ℕ → State
 stateOf s base wrk = record { site = store s; committed = base; working = wrk }
 
--- document 01's answer, with its number or values, for each case
-abbrev pub answerOf : Answer → K.Answer
-answerOf (a.Refused n) = K.refused n
-answerOf (a.Queued id class place slot) = K.queued id class place slot
-answerOf (a.Stepped id done) = K.stepped id done
-answerOf (a.Executed id) = K.executed id
-answerOf (a.Committed id number mark slot backs) = K.committed id number mark slot backs
-answerOf (a.Waiting id w back) = K.waiting id w back
-answerOf (a.Value n) = K.value n
-answerOf (a.ToDo w backs) = K.toDo w backs
-answerOf (a.Unconfirmed backs) = K.unconfirmed backs
+-- document 01's answer, with its number or values, for each case; a work call that reads an entry gives these cells, the committed ones of its class
+abbrev pub answerOf : Answer → List ℕ → K.Answer
+answerOf (a.Refused n) cells = K.refused n
+answerOf (a.Queued id class place slot) cells = K.queued id class place slot
+answerOf (a.Stepped id done) cells = K.stepped id done
+answerOf (a.Executed id) cells = K.executed id
+answerOf (a.Committed id number mark slot backs) cells = K.committed id number mark slot backs
+answerOf (a.Waiting id w back) cells = K.waiting id w back
+answerOf (a.Value n) cells = K.value n
+answerOf (a.ToDo w backs) cells = K.toDo w backs
+answerOf (a.Unconfirmed backs) cells = K.unconfirmed backs
+answerOf (a.Begun place) cells = K.begun place
+answerOf (a.Entry place) cells = K.entry place cells
 
 -- what every call begins with: 0 where the cells are right and the site sound; any other number is what every call is refused with
 pub record Door (x : State) (no : ℕ) : Type 0 where
@@ -68,13 +73,27 @@ pub record Placed (s : Site) (i : ℕ) (v : Slot) (r : Site) : Type 0 where
   pub is : store r ≡ placed (store s) (v .class) i v (r .low) (r .high)
   pub used : usedOf (r .low) (r .high) ≡ set (usedOf (s .low) (s .high)) i true
 
--- class c has a head that is not executed
+-- class c has a head that is an entry, or not executed
 pub record MayWork (x : State) (c : ℕ) : Type 0 where
   pub right : RightCells x
   pub sound : SoundState x
   pub class : c < 16
   pub some : 0 < lenOf (x .site) c
-  pub unfinished : slotAt (x .site .slots) (headSlot (x .site) c) .done ≡ slotAt (x .site .slots) (headSlot (x .site) c) .count → ⊥
+  pub unfinished : headSlot (x .site) c < 128 → slotAt (x .site .slots) (headSlot (x .site) c) .done ≡ slotAt (x .site .slots) (headSlot (x .site) c) .count → ⊥
+
+-- what a head answers that did an operation and has slot i: how many are done, that it is executed, or its commit
+pub record Worked (v : Slot) (i : ℕ) (r : Answer) : Type 0 where
+  pub left : v .done < v .count → r ≡ a.Stepped (v .id) (v .done)
+  pub executed : v .count ≤ v .done → v .number ≡ 0 → r ≡ a.Executed (v .id)
+  pub committed : v .count ≤ v .done → 0 < v .number → r ≡ a.Committed (v .id) (v .number) (v .mark) i (v .backs)
+
+-- a query over a mask of classes may begin: the mask names one, a place is free, and one more can be counted
+pub record MayQuery (x : State) (mask : ℕ) : Type 0 where
+  pub right : RightCells x
+  pub sound : SoundState x
+  pub some : mask ≡ 0 → ⊥
+  pub free : lowestFree (x .site .queries) < 8
+  pub more : x .site .begun < 4294967295
 
 -- slot i stands in class c's queue
 pub record InQueue (s : Store) (c i : ℕ) : Type 0 where

@@ -1,17 +1,19 @@
 // Confirm: a request gets its definitive number; it commits at once if it is the executed head, or moves forward to stand before the waiting ones.
+ghost use mathlib.Core.List.{[]};
 ghost use mathlib.Core.Path.{_≡_};
 ghost use Prim.Native.Nat.{_+_, _<_, _≤_};
 ghost use Rattle.plain.specs.Site.{confirm};
 ghost use Rattle.slots.specs.Meaning.{slotAt};
-ghost use Rattle.store.specs.Sound.{Laid};
 ghost use Rattle.store.specs.Steps.{Backable, PutBack, PlaceOf, FirstWaiting, Forward, numberedStore};
 ghost use Rattle.store.specs.Calls.{Did, Called};
 ghost use Rattle.plain.specs.Decides.{Decides};
 ghost use Rattle.site.specs.Held.{store, stateOf, answerOf, Judged, MayConfirm, Confirmable, HeadDone, InQueue};
 use crate::Answer;
+use crate::CLASS_PLACES;
 use crate::Reply;
 use crate::SLOTS;
 use crate::Site;
+use crate::waiting::backed;
 use kept::KEPT;
 use slots::Slot;
 
@@ -31,25 +33,8 @@ impl Site {
         let len = self.lens[c] as usize;
         let mut p = 0;
         while p < len {
-            let x = self.queue[SLOTS * c + p];
+            let x = self.queue[CLASS_PLACES * c + p];
             if x as usize == i {
-                return p;
-            }
-            p += 1;
-        }
-        p
-    }
-
-    // The place of the first waiting request in class c's queue, its length where none waits.
-    fn first_waiting(self, c: usize) -> usize
-        requires { ⌜ Laid (store self) × (c < 16) ⌝ }
-        ensures { λ r. ⌜ FirstWaiting (store self) c r ⌝ }
-    {
-        let len = self.lens[c] as usize;
-        let mut p = 0;
-        while p < len {
-            let i = self.queue[SLOTS * c + p] as usize;
-            if self.slots[i].number == 0 {
                 return p;
             }
             p += 1;
@@ -63,12 +48,9 @@ impl Site {
         ensures { λ r. ⌜ PutBack (store self) (now (committed .entry)) (now (working .entry)) c (store r) (now (working .exit)) ⌝ }
     {
         cells::copy_class(working, committed, c);
-        let i = self.queue[SLOTS * c] as usize;
-        let mut v = self.slots[i];
-        v.done = 0;
-        v.mark = 0;
-        v.backs = v.backs + 1;
-        self.slots[i] = v;
+        let i = self.queue[CLASS_PLACES * c] as usize;
+        let v = self.slots[i];
+        self.slots[i] = backed(v);
         self
     }
 
@@ -88,7 +70,7 @@ impl Site {
 
     // Slot i gets the next number and moves forward from one place of class c's queue to another.
     fn forward(mut self, c: usize, i: usize, from: usize, to: usize) -> Self
-        requires { ⌜ (i < 128) × (c < 16) × (to ≤ from) × (from < 128) × (self .confirmations < 4294967295) ⌝ }
+        requires { ⌜ (i < 128) × (c < 16) × (to ≤ from) × (from < 136) × (self .confirmations < 4294967295) ⌝ }
         ensures { λ r. ⌜ Forward (store self) c i (self .confirmations + 1) from to (store r) ⌝ }
     {
         self = self.numbered(i);
@@ -109,7 +91,7 @@ impl Site {
         requires { ⌜ (i < 128) × (c < 16) × (c ≡ slotAt (self .slots) i .class) ⌝ }
         ensures { λ r. ⌜ Decides r (HeadDone (store self) i) ⌝ }
     {
-        if self.queue[SLOTS * c] as usize != i {
+        if self.queue[CLASS_PLACES * c] as usize != i {
             return false;
         }
         let v = self.slots[i];
@@ -127,14 +109,14 @@ impl Site {
     ) -> Reply
         requires { ⌜ Confirmable (stateOf self (now committed) (now working)) i × (HeadDone (store self) i → ⊥) ⌝ }
         requires { ⌜ PlaceOf (store self) (slotAt (self .slots) i .class) i from × FirstWaiting (store self) (slotAt (self .slots) i .class) to ⌝ }
-        ensures { λ r. ⌜ Did (stateOf self (now (committed .entry)) (now (working .entry))) (confirm (slotAt (self .slots) i .id) (self .confirmations + 1)) (stateOf (r .site) (now (committed .entry)) (now (working .exit))) (answerOf (r .answer)) ⌝ }
+        ensures { λ r. ⌜ Did (stateOf self (now (committed .entry)) (now (working .entry))) (confirm (slotAt (self .slots) i .id) (self .confirmations + 1)) (stateOf (r .site) (now (committed .entry)) (now (working .exit))) (answerOf (r .answer) []) ⌝ }
     {
         let v = self.slots[i];
         let c = v.class as usize;
-        let first = self.queue[SLOTS * c] as usize;
-        let head = self.slots[first];
+        let first = self.queue[CLASS_PLACES * c] as usize;
         if first != i {
-            if head.number == 0 {
+            if to == 0 {
+                let head = self.slots[first];
                 self = self.put_back(committed, working, c);
                 self = self.forward(c, i, from, to);
                 let w = self.to_do(c, i);
@@ -163,7 +145,7 @@ impl Site {
     // Confirms the request in slot i, which is the executed head of its class: it commits.
     fn confirm_now(mut self, committed: &mut [u32], working: &[u32], i: usize) -> Reply
         requires { ⌜ Confirmable (stateOf self (now committed) (now working)) i × HeadDone (store self) i ⌝ }
-        ensures { λ r. ⌜ Did (stateOf self (now (committed .entry)) (now (working .entry))) (confirm (slotAt (self .slots) i .id) (self .confirmations + 1)) (stateOf (r .site) (now (committed .exit)) (now (working .entry))) (answerOf (r .answer)) ⌝ }
+        ensures { λ r. ⌜ Did (stateOf self (now (committed .entry)) (now (working .entry))) (confirm (slotAt (self .slots) i .id) (self .confirmations + 1)) (stateOf (r .site) (now (committed .exit)) (now (working .entry))) (answerOf (r .answer) []) ⌝ }
     {
         let n = self.confirmations + 1;
         self.confirmations = n;
@@ -230,7 +212,7 @@ impl Site {
         id: u64,
         number: u64,
     ) -> Reply
-        ensures { λ r. ⌜ Called (stateOf self (now (committed .entry)) (now (working .entry))) (confirm id number) (stateOf (r .site) (now (committed .exit)) (now (working .exit))) (answerOf (r .answer)) ⌝ }
+        ensures { λ r. ⌜ Called (stateOf self (now (committed .entry)) (now (working .entry))) (confirm id number) (stateOf (r .site) (now (committed .exit)) (now (working .exit))) (answerOf (r .answer) []) ⌝ }
     {
         let found = self.judge_confirm(&*committed, &*working, id, number);
         if found.no != 0 {

@@ -1,4 +1,4 @@
-// The site: its value, the check that it is sound with its cells, and fresh. The calls stand in offer, work, confirm and look.
+// The site: its value, the check that it is sound with its cells, and fresh. The calls stand in offer, work, confirm, look and query.
 ghost use mathlib.Core.Path.{_≡_};
 ghost use lib.ListN.{length};
 ghost use Rattle.plain.specs.Decides.{Decides};
@@ -9,20 +9,25 @@ ghost use Rattle.site.specs.Held.{store, stateOf, Door};
 mod confirm;
 mod look;
 mod offer;
+mod query;
+mod waiting;
 mod work;
 
 use cells::RUN;
 use cells::clear;
+use checks::CLASS_PLACES;
+use checks::SLOT_LIMIT;
 use checks::cells_ok;
 use checks::gather_owners;
 use checks::gather_stages;
 use checks::laid_out;
 use kept::KEPT;
 use kept::kept_ok;
+use queries::Query;
 use slots::Slot;
 use slots::free_slot;
 
-// Slots are 0 to 127. A queue has at most all of them, so each class has 128 queue places.
+// Slots are 0 to 127.
 pub const SLOTS: usize = 128;
 
 // A class is below 16 and a cell below 64; what a caller gives may be any number.
@@ -33,13 +38,15 @@ const CELLS: u64 = 64;
 #[repr(C)]
 pub struct Site {
     pub slots: [Slot; 128],
-    pub queue: [u8; 2048],
+    pub queue: [u8; 2176],
     pub lens: [u8; 16],
     pub low: u64,
     pub high: u64,
     pub confirmations: u32,
     pub commits: u32,
     pub kept: [u32; KEPT],
+    pub queries: [Query; 8],
+    pub begun: u32,
 }
 
 // What a call answers; document 01's number and values for each case are in specs/Held.
@@ -78,6 +85,12 @@ pub enum Answer {
     Unconfirmed {
         backs: u64,
     },
+    Begun {
+        place: u8,
+    },
+    Entry {
+        place: u8,
+    },
 }
 
 // The site handed back, with the answer.
@@ -93,20 +106,26 @@ pub struct Fresh {
 }
 
 impl Site {
-    // No request queued, both counts 0, all cells 0. With wrong cells it touches none.
+    // No request queued, no query open, all counts 0, all cells 0. With wrong cells it touches none.
     pub fn fresh(committed: &mut [u32], working: &mut [u32]) -> Fresh
         ensures { λ r. ⌜ Started (now (committed .entry)) (now (working .entry)) (store (r .site)) (r .refused) (now (committed .exit)) (now (working .exit)) ⌝ }
     {
         let free = free_slot();
+        let none = Query {
+            classes: 0,
+            begun: 0,
+        };
         let site = Site {
             slots: [free; 128],
-            queue: [0; 2048],
+            queue: [0; 2176],
             lens: [0; 16],
             low: 0,
             high: 0,
             confirmations: 0,
             commits: 0,
             kept: [0; KEPT],
+            queries: [none; 8],
+            begun: 0,
         };
         if committed.len() != RUN {
             return Fresh {
@@ -134,13 +153,14 @@ impl Site {
         ensures { λ r. ⌜ Decides r (Sound (store self) (now (committed .entry)) (now (working .entry))) ⌝ }
     {
         let slots = self.slots;
-        let o = gather_owners(slots, self.confirmations);
+        let o = gather_owners(slots, (self.confirmations as u64) + (self.begun as u64));
         if !o.ok {
             return false;
         }
-        let g = gather_stages(slots);
+        let table = self.queries;
+        let g = gather_stages(slots, table);
         let kept = self.kept;
-        if !kept_ok(&o.ids, &g.numbers, kept, self.confirmations) {
+        if !kept_ok(&o.ids, &g.lines, kept, self.confirmations) {
             return false;
         }
         let queue = self.queue;
@@ -148,11 +168,12 @@ impl Site {
         let laid = laid_out(
             &o.ids,
             &o.classes,
-            &g.numbers,
+            &g.lines,
             &g.dones,
             &g.marks,
             queue,
             lens,
+            table,
             self.low,
             self.high,
             self.confirmations,

@@ -1,4 +1,5 @@
 // Read and look: what a site answers without changing, and the search of an id.
+ghost use mathlib.Core.List.{[]};
 ghost use mathlib.Core.Path.{_≡_};
 ghost use Prim.Native.Nat.{_<_};
 ghost use Rattle.plain.specs.Queue.{owed};
@@ -10,7 +11,9 @@ ghost use Rattle.store.specs.Calls.{Called};
 ghost use Rattle.site.specs.Held.{store, stateOf, answerOf, SlotOf};
 use crate::Answer;
 use crate::CELLS;
+use crate::CLASS_PLACES;
 use crate::CLASSES;
+use crate::SLOT_LIMIT;
 use crate::SLOTS;
 use crate::Site;
 
@@ -35,7 +38,7 @@ impl Site {
         at
     }
 
-    // The operations still to do by slot s and by all before it in the queue of class c.
+    // The operations still to do by slot s and by all before it in the queue of class c; an entry of a query counts 1.
     pub(crate) fn to_do(self, c: usize, s: usize) -> u32
         requires { ⌜ Countable (store self) c × (s < 128) × (0 < slotAt (self .slots) s .id) ⌝ }
         ensures { λ r. ⌜ r ≡ owed (slotAt (self .slots) s .id) (queueOf (store self) c) ⌝ }
@@ -44,11 +47,15 @@ impl Site {
         let mut w: u32 = 0;
         let mut p = 0;
         while p < len {
-            let x = self.queue[SLOTS * c + p];
-            let i = x as usize;
-            let v = self.slots[i];
-            let left = v.count - v.done;
-            w = w + (left as u32);
+            let b = self.queue[CLASS_PLACES * c + p];
+            let i = b as usize;
+            if b < SLOT_LIMIT {
+                let v = self.slots[i];
+                let left = v.count - v.done;
+                w = w + (left as u32);
+            } else {
+                w = w + 1;
+            }
             if i == s {
                 return w;
             }
@@ -59,7 +66,7 @@ impl Site {
 
     // The committed cell of a class; or refuses with 1, 2, 10 or 12.
     pub fn read(self, committed: &[u32], working: &[u32], class: u64, cell: u64) -> Answer
-        ensures { λ r. ⌜ Called (stateOf self (now (committed .entry)) (now (working .entry))) (read class cell) (stateOf self (now (committed .entry)) (now (working .entry))) (answerOf r) ⌝ }
+        ensures { λ r. ⌜ Called (stateOf self (now (committed .entry)) (now (working .entry))) (read class cell) (stateOf self (now (committed .entry)) (now (working .entry))) (answerOf r []) ⌝ }
     {
         let no = self.door(committed, working);
         if no != 0 {
@@ -77,7 +84,7 @@ impl Site {
 
     // W for a confirmed request, or that it is unconfirmed, and how often it was put back; or refuses with 1, 2 or 8.
     pub fn look(self, committed: &[u32], working: &[u32], id: u64) -> Answer
-        ensures { λ r. ⌜ Called (stateOf self (now (committed .entry)) (now (working .entry))) (look id) (stateOf self (now (committed .entry)) (now (working .entry))) (answerOf r) ⌝ }
+        ensures { λ r. ⌜ Called (stateOf self (now (committed .entry)) (now (working .entry))) (look id) (stateOf self (now (committed .entry)) (now (working .entry))) (answerOf r []) ⌝ }
     {
         let no = self.door(committed, working);
         if no != 0 {

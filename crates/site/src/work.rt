@@ -1,16 +1,54 @@
-// Work: the head of a class does its next operation, and commits when it has done its last and is confirmed.
+// Work: the head of a class does its next operation, and commits when it has done its last and is confirmed; a head that is an entry of a query is read.
+ghost use Prim.Native.Nat.{_<_, _≤_};
 ghost use Rattle.plain.specs.Site.{work};
 ghost use Rattle.store.specs.Steps.{Commitable, CommitDone};
+ghost use Rattle.plain.specs.Decides.{Decides};
+ghost use Rattle.store.specs.Meaning.{cellsOf};
 ghost use Rattle.store.specs.Calls.{Did, Called};
-ghost use Rattle.site.specs.Held.{store, stateOf, answerOf, Judged, MayWork};
+ghost use Rattle.site.specs.Held.{store, stateOf, answerOf, Judged, MayWork, Worked};
 use crate::Answer;
+use crate::CLASS_PLACES;
 use crate::CLASSES;
 use crate::Reply;
-use crate::SLOTS;
+use crate::SLOT_LIMIT;
 use crate::Site;
+use queries::without;
+use slots::Slot;
 use slots::free_slot;
 use slots::steps::step;
 use usedmap::UsedMap;
+
+// Whether a head with these operations done commits: it is executed and confirmed.
+fn commits(v: Slot) -> bool
+    ensures { λ r. ⌜ Decides r ((v .count ≤ v .done) × (0 < v .number)) ⌝ }
+{
+    if v.done < v.count {
+        return false;
+    }
+    v.number != 0
+}
+
+// What a head answers that did an operation and has slot s: how many are done, that it is executed, or its commit.
+fn worked(v: Slot, s: u8) -> Answer
+    ensures { λ r. ⌜ Worked v s r ⌝ }
+{
+    if v.done < v.count {
+        return Answer::Stepped {
+            id: v.id,
+            done: v.done,
+        };
+    }
+    if v.number == 0 {
+        return Answer::Executed { id: v.id };
+    }
+    Answer::Committed {
+        id: v.id,
+        number: v.number,
+        mark: v.mark,
+        slot: s,
+        backs: v.backs,
+    }
+}
 
 impl Site {
     // The head of class c commits: its cells, its slot, its place, the count.
@@ -19,7 +57,7 @@ impl Site {
         ensures { λ r. ⌜ CommitDone (store self) (now (committed .entry)) (now (working .entry)) c (store r) (now (committed .exit)) ⌝ }
     {
         cells::copy_class(committed, working, c);
-        let s = self.queue[SLOTS * c];
+        let s = self.queue[CLASS_PLACES * c];
         let i = s as usize;
         self.slots[i] = free_slot();
         let old = UsedMap {
@@ -51,57 +89,54 @@ impl Site {
         if self.lens[c] == 0 {
             return 11;
         }
-        let i = self.queue[SLOTS * c] as usize;
-        let v = self.slots[i];
+        let b = self.queue[CLASS_PLACES * c];
+        if SLOT_LIMIT <= b {
+            return 0;
+        }
+        let v = self.slots[b as usize];
         if v.done == v.count {
             return 11;
         }
         0
     }
 
-    // The head of class c does its next operation, and commits if that was its last and it is confirmed.
+    // The head of class c does its next operation, and commits if that was its last and it is confirmed. An entry of a query is read and leaves; its
+    // query's place is free where it was the last.
     fn work_head(mut self, committed: &mut [u32], working: &mut [u32], c: usize) -> Reply
         requires { ⌜ MayWork (stateOf self (now committed) (now working)) c ⌝ }
-        ensures { λ r. ⌜ Did (stateOf self (now (committed .entry)) (now (working .entry))) (work c) (stateOf (r .site) (now (committed .exit)) (now (working .exit))) (answerOf (r .answer)) ⌝ }
+        ensures { λ r. ⌜ Did (stateOf self (now (committed .entry)) (now (working .entry))) (work c) (stateOf (r .site) (now (committed .exit)) (now (working .exit))) (answerOf (r .answer) (cellsOf (now (committed .exit)) c)) ⌝ }
     {
-        let s = self.queue[SLOTS * c];
+        let s = self.queue[CLASS_PLACES * c];
+        if SLOT_LIMIT <= s {
+            let p = s - SLOT_LIMIT;
+            let q = self.queries[p as usize];
+            self.queries[p as usize] = without(q, c as u32);
+            let len = self.lens[c];
+            places::take_head(&mut self.queue, c, len as usize);
+            self.lens[c] = len - 1;
+            return Reply {
+                site: self,
+                answer: Answer::Entry { place: p + 1 },
+            };
+        }
         let i = s as usize;
         let v = self.slots[i];
         let a = cells::CELLS * c;
         let b = a + cells::CELLS;
         let u = step(v, &committed[a..b], &mut working[a..b]);
         self.slots[i] = u;
-        if u.done < u.count {
-            return Reply {
-                site: self,
-                answer: Answer::Stepped {
-                    id: u.id,
-                    done: u.done,
-                },
-            };
+        if commits(u) {
+            self = self.commit(committed, &*working, c);
         }
-        if u.number == 0 {
-            return Reply {
-                site: self,
-                answer: Answer::Executed { id: u.id },
-            };
-        }
-        self = self.commit(committed, &*working, c);
         Reply {
             site: self,
-            answer: Answer::Committed {
-                id: u.id,
-                number: u.number,
-                mark: u.mark,
-                slot: s,
-                backs: u.backs,
-            },
+            answer: worked(u, s),
         }
     }
 
-    // The head of a class does its next operation; answers id and operations done, that it is executed, or its commit; or refuses with 1, 2, 10 or 11.
+    // The head of a class does its next operation; answers id and operations done, that it is executed, its commit, or the entry read; or refuses with 1, 2, 10 or 11.
     pub fn work(mut self, committed: &mut [u32], working: &mut [u32], class: u64) -> Reply
-        ensures { λ r. ⌜ Called (stateOf self (now (committed .entry)) (now (working .entry))) (work class) (stateOf (r .site) (now (committed .exit)) (now (working .exit))) (answerOf (r .answer)) ⌝ }
+        ensures { λ r. ⌜ Called (stateOf self (now (committed .entry)) (now (working .entry))) (work class) (stateOf (r .site) (now (committed .exit)) (now (working .exit))) (answerOf (r .answer) (cellsOf (now (committed .exit)) class)) ⌝ }
     {
         let no = self.judge_work(&*committed, &*working, class);
         if no != 0 {
@@ -110,6 +145,7 @@ impl Site {
                 answer: Answer::Refused(no),
             };
         }
-        self.work_head(committed, working, class as usize)
+        let c = class as usize;
+        self.work_head(committed, working, c)
     }
 }

@@ -1,5 +1,5 @@
 -- What a slot's operations make of the cells of its class. Assumes nothing.
-use Prim.Native.Nat.{ℕ, suc, _<_}
+use Prim.Native.Nat.{ℕ, suc}
 use mathlib.Core.Path.{_≡_}
 use mathlib.Core.Logic.{_⊎_}
 use mathlib.Core.Bool.{Bool, cond}
@@ -48,8 +48,3 @@ pub record RanOn (v : Slot) (base : List ℕ) (mark : ℕ) (after : List ℕ) : 
 -- whether a slot may be the head of its class with these cells; its slot number does not matter
 abbrev pub HeadOk : Bool → Slot → List ℕ → List ℕ → Type 0
 HeadOk b v base w = (i : ℕ) → Decides b (Head (entryOf i v) base w)
-
--- a request with this number, done operations and mark may stand directly behind one with the number `before`
-pub record Follows (before number done mark : ℕ) : Type 0 where
-  pub order : (number ≡ 0) ⊎ ((0 < before) × (before < number))
-  pub untouched : (done ≡ 0) × (mark ≡ 0)

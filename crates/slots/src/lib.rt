@@ -4,7 +4,6 @@ ghost use mathlib.Core.Logic.{_⊎_};
 ghost use Rattle.plain.specs.Decides.{Decides};
 ghost use Rattle.slots.specs.Meaning.{freeSlot};
 ghost use Rattle.slots.specs.Rules.{OpsOk, OpsZero, Holds};
-ghost use Rattle.slots.specs.Steps.{Follows};
 use cells::CLASSES;
 use cells::Op;
 use cells::op_ok;
@@ -125,22 +124,4 @@ pub fn slot_ok(v: Slot) -> bool
         return holds(v);
     }
     is_zero(v)
-}
-
-// Whether a request with this number, done operations and mark may stand directly behind one with the number `before`.
-pub fn follows(before: u32, number: u32, done: u8, mark: u8) -> bool
-    ensures { λ r. ⌜ Decides r (Follows before number done mark) ⌝ }
-{
-    if number != 0 {
-        if before == 0 {
-            return false;
-        }
-        if number <= before {
-            return false;
-        }
-    }
-    if done != 0 {
-        return false;
-    }
-    mark == 0
 }

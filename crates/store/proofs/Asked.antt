@@ -1,5 +1,5 @@
 -- What the calls ask of the arrays, and what the plain site answers: the lowest free slot, the number queued, the class of an id. Assumes nothing.
-use Prim.Native.Nat.{ℕ, zero, suc, _+_, _<_, _≤_}
+use Prim.Native.Nat.{ℕ, suc, _+_, _<_, _≤_}
 use native.Mathlib.Omega.{arith}
 use mathlib.Core.Path.{_≡_, refl, sym, ap, _∙_, subst}
 use mathlib.Core.Logic.{_⊎_, inl, inr}
@@ -7,44 +7,57 @@ use mathlib.Core.Bool.{Bool, true, false, not, cond}
 use mathlib.Core.List.{List, [], _∷_}
 use lib.Dec.{eqb, ltb}
 use lib.ListN.{length, getD, length-map, List·getD-map}
-use borrow.Author.Tests.{eqb-true, eq-eqb, ne-eqb, ltb-true, ltb-false}
+use borrow.Author.Tests.{eqb-true, eq-eqb, ne-eqb, lt-ltb, ltb-true, ltb-false}
 use Rattle.plain.specs.Queue as Q
 use Rattle.plain.specs.Site as S
 use Rattle.plain.specs.Sound.{SoundSite}
 use Rattle.plain.proofs.Tests.{by-test, no}
 use Rattle.plain.proofs.Sums.{sum-same, sum-single, sum-term, lowest-past}
 use Rattle.plain.proofs.Queues.{asked-length}
+use Rattle.plain.proofs.Bounds.{entries-few}
 use Rattle.plain.proofs.Sites.{class-is}
 use Rattle.usedmap.specs.Flags.{usedOf, firstFree, countUsed}
 use Rattle.usedmap.proofs.Flags.{first-free, first-le}
 use Rattle.slots.specs.declared.Slot.{Slot}
 use Rattle.slots.specs.Meaning.{freeSlot, noSlot, slotAt, isUsed}
 use Rattle.slots.specs.Rules.{Holds}
+use Rattle.queries.specs.declared.Query.{Query}
 use Rattle.store.specs.Store.{Store, Shaped}
-use Rattle.store.specs.Meaning.{lenOf, places, entries, queueOf, plainClass, plain}
+use Rattle.store.specs.Meaning.{lenOf, places, itemAt, items, queueOf, plainClass, plain}
 use Rattle.store.specs.Sound.{times, Laid, Apart}
 use Rattle.store.proofs.Sums.{sum-flags, lowest-flag}
-use Rattle.store.proofs.Canonical.{has-id, has-class, stands-there, places-length}
+use Rattle.store.proofs.Canonical.{has-id, has-class, stands-there, slot-stands, places-length}
 use Rattle.store.proofs.Standing.{used-small, passing, standing-is}
 use Rattle.store.proofs.Meant.{used-holds, standing-plain}
 
 -- an id that a place's slot has stands in the queue; one that no place's slot has does not
-pub has-of : (l : List Slot) (x : ℕ) (ps : List ℕ) → 0 < times x ps → Q.has (slotAt l x .id) (entries l ps) ≡ true
-has-of l x [] h = absurd (omega arith)
-has-of l x (y ∷ ps) h =
+pub has-of : (l : List Slot) (qs : List Query) (x : ℕ) (ps : List ℕ) → x < 128 → 0 < times x ps → Q.has (slotAt l x .id) (items l qs ps) ≡ true
+has-of l qs x [] m h = absurd (omega arith)
+has-of l qs x (y ∷ ps) m h =
     by-test (eqb y x)
-    (λ t. rw (eqb-true y x t, eq-eqb (slotAt l x .id) (slotAt l x .id) refl))
-    (λ f. by-test (eqb (slotAt l y .id) (slotAt l x .id)) (λ t. rw t) (λ g. rw g (has-of l x ps (rw f at h))))
+    (λ t. rw (eqb-true y x t, lt-ltb x 128 m, eq-eqb (slotAt l x .id) (slotAt l x .id) refl))
+    (λ f. by-test (Q.idIs (slotAt l x .id) (itemAt l qs y)) (λ t. rw t) (λ g. rw g (has-of l qs x ps m (rw f at h))))
 
-pub has-none : (l : List Slot) (n : ℕ) (ps : List ℕ) → ((j : ℕ) → 0 < times j ps → slotAt l j .id ≡ n → ⊥) → Q.has n (entries l ps) ≡ false
-has-none l n [] e = refl
-has-none l n (x ∷ ps) e =
-    rw (ne-eqb (slotAt l x .id) n (e x (rw (eq-eqb x x refl) (omega arith))))
-    (has-none l n ps (λ j h. e j (by-test (eqb x j) (λ t. rw t (omega arith)) (λ f. rw f h))))
+pub has-none : (l : List Slot) (qs : List Query) (n : ℕ) (ps : List ℕ) → ((j : ℕ) → j < 128 → 0 < times j ps → slotAt l j .id ≡ n → ⊥) → Q.has n (items l qs ps) ≡ false
+has-none l qs n [] e = refl
+has-none l qs n (x ∷ ps) e =
+    rw (not-it, has-none l qs n ps (λ j m h. e j m (by-test (eqb x j) (λ t. rw t (omega arith)) (λ f. rw f h))))
+  where
+    not-it : Q.idIs n (itemAt l qs x) ≡ false
+    not-it =
+        by-test (ltb x 128)
+        (λ t. rw (t, ne-eqb (slotAt l x .id) n (e x (ltb-true x 128 t) (rw (eq-eqb x x refl) (omega arith)))))
+        (λ f. rw f)
 
-count-all : {A : Type 0} (q : List A) → length q ≡ Q.count (λ x. true) q
-count-all [] = refl
-count-all (x ∷ q) = let r = count-all q in omega arith
+-- how many requests a queue has
+abbrev isRequest : Q.Item → Bool
+isRequest (Q.booking e) = true
+isRequest (Q.reading p n) = false
+
+count-asked : (q : List Q.Item) → length (Q.asked q) ≡ Q.count isRequest q
+count-asked [] = refl
+count-asked (Q.booking e ∷ q) = let r = count-asked q in omega arith
+count-asked (Q.reading p n ∷ q) = let r = count-asked q in omega arith
 
 -- none is free: all count
 full-count : (bs : List Bool) → firstFree bs ≡ length bs → countUsed bs ≡ length bs
@@ -64,11 +77,11 @@ one-id f a x y l m k e =
 
 module _ (s : Store) (w : Shaped s) (h : Laid s) (base wrk : List ℕ) where
   -- a used slot stands in its class's queue, once
-  pub there : (i : ℕ) → Holds (slotAt (s .slots) i) → times i (places s (slotAt (s .slots) i .class)) ≡ 1
-  there i k = h .exactly-once (slotAt (s .slots) i .class) i (has-class (slotAt (s .slots) i) k) ∙ stands-there (slotAt (s .slots) i) k
+  pub there : (i : ℕ) → i < 128 → Holds (slotAt (s .slots) i) → times i (places s (slotAt (s .slots) i .class)) ≡ 1
+  there i m k = h .exactly-once (slotAt (s .slots) i .class) i (has-class (slotAt (s .slots) i) k) ∙ slot-stands s (slotAt (s .slots) i .class) i m ∙ stands-there (slotAt (s .slots) i) k
 
-  not-there : (c i : ℕ) → c < 16 → isUsed (slotAt (s .slots) i) ≡ false → times i (places s c) ≡ 0
-  not-there c i l f = h .exactly-once c i l ∙ rw f
+  not-there : (c i : ℕ) → c < 16 → i < 128 → isUsed (slotAt (s .slots) i) ≡ false → times i (places s c) ≡ 0
+  not-there c i l m f = h .exactly-once c i l ∙ slot-stands s c i m ∙ rw f
 
   flags-at : (i : ℕ) → getD (usedOf (s .low) (s .high)) i false ≡ isUsed (slotAt (s .slots) i)
   flags-at i = rw (h .map-agrees) (List·getD-map isUsed (s .slots) i noSlot)
@@ -81,7 +94,7 @@ module _ (s : Store) (w : Shaped s) (h : Laid s) (base wrk : List ℕ) where
   unfolding S.isFree
   free-test i l =
       let e : S.standing (Q.slotIs i) (plain s base wrk) ≡ cond (isUsed (slotAt (s .slots) i)) 1 0 =
-      standing-plain s (w .slots) h base wrk (Q.slotIs i)
+      standing-plain s (w .slots) (w .queries) h base wrk (Q.slotIs i) (λ p n. refl)
       ∙ sum-single (passing s (w .slots) (Q.slotIs i)) 128 i l (λ d ne. rw (ne-eqb d i ne) (none (isUsed (slotAt (s .slots) d))))
       ∙ rw (eq-eqb i i refl) in
       rw e (is-zero (isUsed (slotAt (s .slots) i)))
@@ -105,36 +118,44 @@ module _ (s : Store) (w : Shaped s) (h : Laid s) (base wrk : List ℕ) where
   pub queued-is : S.numberQueued (plain s base wrk) ≡ countUsed (usedOf (s .low) (s .high))
   unfolding S.numberQueued plain plainClass
   queued-is =
-      sum-same (λ c. length (Q.asked (queueOf s c))) (λ c. Q.count (λ e. true) (queueOf s c)) 16 (λ c l. asked-length (queueOf s c) ∙ count-all (queueOf s c))
-      ∙ standing-is s (w .slots) (h .free-or-valid) (h .exactly-once) (λ e. true)
-      ∙ sum-same (passing s (w .slots) (λ e. true)) (λ i. cond (getD (usedOf (s .low) (s .high)) i false) 1 0) 128 (λ i l. rw flags-at)
+      sum-same (λ c. length (Q.asked (queueOf s c))) (λ c. Q.count isRequest (queueOf s c)) 16 (λ c l. count-asked (queueOf s c))
+      ∙ standing-is s (w .slots) (w .queries) (h .free-or-valid) (h .exactly-once) isRequest (λ p n. refl)
+      ∙ sum-same (passing s (w .slots) isRequest) (λ i. cond (getD (usedOf (s .low) (s .high)) i false) 1 0) 128 (λ i l. rw flags-at)
       ∙ sym (subst (λ (n : ℕ). countUsed (usedOf (s .low) (s .high)) ≡ S.sum (λ i. cond (getD (usedOf (s .low) (s .high)) i false) 1 0) n) flags-length
       (sum-flags (usedOf (s .low) (s .high))))
 
-  -- a queue is no longer than that
-  pub room : (c : ℕ) → c < 16 → lenOf s c ≤ S.numberQueued (plain s base wrk)
+  -- a queue is no longer than that and the 8 entries of queries that it may have
+  pub room : SoundSite (plain s base wrk) → (c : ℕ) → c < 16 → lenOf s c ≤ S.numberQueued (plain s base wrk) + 8
   unfolding S.numberQueued plain plainClass
-  room c l =
-      let e : length (Q.asked (queueOf s c)) ≡ lenOf s c = asked-length (queueOf s c) ∙ length-map (places s c) _ ∙ places-length s w h c l in
-      omega (arith, sum-term (λ c. length (Q.asked (queueOf s c))) 16 c l)
+  room q c l =
+      omega (
+        arith,
+        asked-length (queueOf s c),
+        length-map (places s c) (itemAt (s .slots) (s .queries)),
+        places-length s w h c l,
+        entries-few (plain s base wrk) q c l,
+        sum-term (λ c. length (Q.asked (queueOf s c))) 16 c l,
+      )
 
   -- an id: its slot's class, or no class
   pub id-found : SoundSite (plain s base wrk) → (j : ℕ) → 0 < slotAt (s .slots) j .id
       → (S.classOf (plain s base wrk) (slotAt (s .slots) j .id) ≡ slotAt (s .slots) j .class) × (slotAt (s .slots) j .class < 16)
   unfolding plain plainClass
   id-found q j u =
-      let k = used-holds s (w .slots) h j (rw (ne-eqb (slotAt (s .slots) j .id) 0 (omega arith))) in
+      let t : isUsed (slotAt (s .slots) j) ≡ true = rw (ne-eqb (slotAt (s .slots) j .id) 0 (omega arith)) in
+      let m = used-small s (w .slots) j t in
+      let k = used-holds s (w .slots) (w .queries) h j t in
       let c = slotAt (s .slots) j .class in (
-        class-is (plain s base wrk) (slotAt (s .slots) j .id) c q (has-class (slotAt (s .slots) j) k) (has-of (s .slots) j (places s c) (omega (arith, there j k))),
+        class-is (plain s base wrk) (slotAt (s .slots) j .id) c q (has-class (slotAt (s .slots) j) k) (has-of (s .slots) (s .queries) j (places s c) m (omega (arith, there j m k))),
         has-class (slotAt (s .slots) j) k,
       )
 
   pub id-absent : (n : ℕ) → ((j : ℕ) → j < 128 → 0 < slotAt (s .slots) j .id → slotAt (s .slots) j .id ≡ n → ⊥) → S.classOf (plain s base wrk) n ≡ 16
   unfolding S.classOf plain plainClass
   id-absent n e = lowest-past (λ c. Q.has n (queueOf s c)) 0 16 (λ c l.
-      has-none (s .slots) n (places s c) (λ j u. by-test (isUsed (slotAt (s .slots) j))
-      (λ t. e j (used-small s (w .slots) j t) (has-id (slotAt (s .slots) j) (used-holds s (w .slots) h j t)))
-      (λ f. absurd (omega (arith, not-there c j (omega arith) f)))))
+      has-none (s .slots) (s .queries) n (places s c) (λ j m u. by-test (isUsed (slotAt (s .slots) j))
+      (λ t. e j m (has-id (slotAt (s .slots) j) (used-holds s (w .slots) (w .queries) h j t)))
+      (λ f. absurd (omega (arith, not-there c j (omega arith) m f)))))
 
   -- where not all are used, the lowest free slot is free and all zero
   pub lowest-is-free : countUsed (usedOf (s .low) (s .high)) < 128

@@ -3,16 +3,17 @@ use Prim.Native.Nat.{ℕ, zero, suc, _+_, _*_, _-_, _<_, _≤_}
 use native.Mathlib.Omega.{arith}
 use mathlib.Core.Path.{_≡_, refl, sym, ap, _∙_}
 use mathlib.Core.Logic.{_⊎_, inl, inr}
-use mathlib.Core.Bool.{true}
+use mathlib.Core.Bool.{Bool, true, false, cond}
 use mathlib.Core.List.{List, [], _∷_, _++_, map}
-use lib.Dec.{eqb}
+use lib.Dec.{eqb, ltb}
 use lib.ListN.{getD, length, take, drop, replicate, length-map, length-drop, take-append-drop}
 use lib.Seq.{ext-getD, length-take-le}
-use borrow.Author.Tests.{eqb-true, eqb-false, eq-eqb, ne-eqb, not-true, ltb-true, leb-true}
+use borrow.Author.Tests.{eqb-true, eqb-false, eq-eqb, ne-eqb, not-true, lt-ltb, le-ltb, ltb-true, ltb-false, leb-true}
 use Rattle.plain.specs.Ops as P
 use Rattle.plain.specs.Record as R
 use Rattle.plain.specs.Queue as Q
 use Rattle.plain.specs.Steps as K
+use Rattle.plain.specs.Site.{named}
 use Rattle.cells.specs.Ops.{Coded, noOp, opOf}
 use Rattle.cells.specs.declared.Op.{Op}
 use Rattle.places.specs.Moves.{part}
@@ -22,11 +23,14 @@ use Rattle.slots.specs.Meaning.{entryOf, freeSlot, isUsed, noSlot, requestOf, s
 use Rattle.slots.specs.Rules.{Holds}
 use Rattle.slots.specs.declared.Slot.{Slot}
 use Rattle.store.proofs.Lists.{by-parts, map-at}
+use Rattle.store.proofs.Masks.{mask-inj, some-named}
 use Rattle.store.specs.Checks.{InUse, Spare}
-use Rattle.store.specs.Meaning.{Same, entries, lenOf, places, plain, plainClass}
+use Rattle.store.specs.Meaning.{Same, itemAt, items, lenOf, places, plain, plainClass}
 use Rattle.store.proofs.KeptIds.{place-of}
-use Rattle.store.specs.Sound.{Laid, stands, times}
-use Rattle.store.specs.Store.{Shaped, Store}
+use Rattle.store.specs.Sound.{Laid, stands, standsAt, times}
+use Rattle.queries.specs.declared.Query.{Query}
+use Rattle.queries.specs.Table.{freeQuery}
+use Rattle.store.specs.Store.{Shaped, Store, queryAt}
 use Rattle.usedmap.proofs.Flags.{used-inj}
 
 -- the operation, and the slot, that an operation and an entry are read from
@@ -109,28 +113,53 @@ has-class v h = ltb-true (v .class) 16 (rules-hold v h .1 .1 .0)
 pub stands-there : (v : Slot) → Holds v → stands (v .class) v ≡ 1
 stands-there v h = let n = has-id v h in rw (ne-eqb (v .id) 0 (omega arith), eq-eqb (v .class) (v .class) refl)
 
-slots-of : (l : List Slot) (ps : List ℕ) → map (λ (e : Q.Entry). e .slot) (entries l ps) ≡ ps
-slots-of l [] = refl
-slots-of l (p ∷ ps) = rw (slots-of l ps)
+-- the queue place that an item is read from
+abbrev placeBack : Q.Item → ℕ
+placeBack (Q.booking e) = e .slot
+placeBack (Q.reading p b) = 127 + p
+
+place-back : (l : List Slot) (qs : List Query) (b : ℕ) → placeBack (itemAt l qs b) ≡ b
+place-back l qs b =
+    by-test (ltb b 128)
+    (λ t. rw t)
+    (λ f. rw f (omega (arith, ltb-false b 128 f)))
+
+places-back : (l : List Slot) (qs : List Query) (ps : List ℕ) → map placeBack (items l qs ps) ≡ ps
+places-back l qs [] = refl
+places-back l qs (p ∷ ps) = rw (place-back l qs p, places-back l qs ps)
+
+-- what a queue place below 128 names, and one from 128 on
+pub slot-item : (l : List Slot) (qs : List Query) (i : ℕ) → i < 128 → itemAt l qs i ≡ Q.booking (entryOf i (slotAt l i))
+slot-item l qs i h = rw (lt-ltb i 128 h)
+
+pub query-item : (l : List Slot) (qs : List Query) (p : ℕ) → itemAt l qs (128 + p) ≡ Q.reading (suc p) (queryAt qs p .begun)
+query-item l qs p = let e : 128 + p - 128 ≡ p = omega arith in rw (le-ltb (128 + p) 128 (omega arith), e)
+
+-- and what may stand there
+pub slot-stands : (s : Store) (c i : ℕ) → i < 128 → standsAt s c i ≡ stands c (slotAt (s .slots) i)
+slot-stands s c i h = rw (lt-ltb i 128 h)
+
+pub query-stands : (s : Store) (c p : ℕ) → standsAt s c (128 + p) ≡ cond (named (queryAt (s .queries) p .classes) c) 1 0
+query-stands s c p = let e : 128 + p - 128 ≡ p = omega arith in rw (le-ltb (128 + p) 128 (omega arith), e)
 
 -- what a laid out site's arrays come to
 module _ (s : Store) (w : Shaped s) (h : Laid s) (c : ℕ) (l : c < 16) where
-  pub part-length : length (part (s .queue) c) ≡ 128
-  part-length = length-take-le 128 (drop (128 * c) (s .queue)) (omega (arith, length-drop (128 * c) (s .queue), w .queue))
+  pub part-length : length (part (s .queue) c) ≡ 136
+  part-length = length-take-le 136 (drop (136 * c) (s .queue)) (omega (arith, length-drop (136 * c) (s .queue), w .queue))
 
   pub places-length : length (places s c) ≡ lenOf s c
-  places-length = length-take-le (lenOf s c) (part (s .queue) c) (omega (arith, part-length, h .not-longer-than-128 c l))
+  places-length = length-take-le (lenOf s c) (part (s .queue) c) (omega (arith, part-length, h .not-longer-than-136 c l))
 
-  pub part-is : part (s .queue) c ≡ places s c ++ replicate (128 - lenOf s c) 0
+  pub part-is : part (s .queue) c ≡ places s c ++ replicate (136 - lenOf s c) 0
   part-is = sym (take-append-drop (lenOf s c) (part (s .queue) c)) ∙ rw (h .past-the-end-zero c l)
 
 module _ (s t : Store) (base wrk base′ wrk′ : List ℕ) (v : Shaped s) (w : Shaped t) (g : Laid s) (h : Laid t) (e : Same (plain s base wrk) (plain t base′ wrk′)) where
-  queues : (c : ℕ) → c < 16 → entries (s .slots) (places s c) ≡ entries (t .slots) (places t c)
+  queues : (c : ℕ) → c < 16 → items (s .slots) (s .queries) (places s c) ≡ items (t .slots) (t .queries) (places t c)
   unfolding plain plainClass
   queues c l = ap (λ (k : K.Class). k .queue) (e .class c l)
 
   same-places : (c : ℕ) → c < 16 → places s c ≡ places t c
-  same-places c l = sym (slots-of (s .slots) (places s c)) ∙ ap (map (λ (e : Q.Entry). e .slot)) (queues c l) ∙ slots-of (t .slots) (places t c)
+  same-places c l = sym (places-back (s .slots) (s .queries) (places s c)) ∙ ap (map placeBack) (queues c l) ∙ places-back (t .slots) (t .queries) (places t c)
 
   same-len : (c : ℕ) → c < 16 → lenOf s c ≡ lenOf t c
   same-len c l = sym (places-length s v g c l) ∙ ap length (same-places c l) ∙ places-length t w h c l
@@ -139,14 +168,19 @@ module _ (s t : Store) (base wrk base′ wrk′ : List ℕ) (v : Shaped s) (w : 
   same-lens = ext-getD 0 (s .lens) (t .lens) (omega (arith, v .lens, w .lens)) (λ c l. same-len c (omega (arith, v .lens)))
 
   same-queue : s .queue ≡ t .queue
-  same-queue = by-parts 128 16 (s .queue) (t .queue) (v .queue) (w .queue) (λ c l.
+  same-queue = by-parts 136 16 (s .queue) (t .queue) (v .queue) (w .queue) (λ c l.
       part-is s v g c l ∙ rw (same-places c l, same-len c l) (sym (part-is t w h c l)))
 
+  -- what stands in a queue of one of them
+  item-at : (c b : ℕ) → c < 16 → 0 < times b (places s c) → itemAt (s .slots) (s .queries) b ≡ itemAt (t .slots) (t .queries) b
+  item-at c b l u =
+      map-at (itemAt (s .slots) (s .queries)) (itemAt (t .slots) (t .queries)) b (places s c)
+      (queues c l ∙ ap (items (t .slots) (t .queries)) (sym (same-places c l))) u
+
   -- a slot that one of them uses
-  entry-at : (c i : ℕ) → c < 16 → 0 < times i (places s c) → entryOf i (slotAt (s .slots) i) ≡ entryOf i (slotAt (t .slots) i)
-  entry-at c i l u =
-      map-at (λ i. entryOf i (slotAt (s .slots) i)) (λ i. entryOf i (slotAt (t .slots) i)) i (places s c)
-      (queues c l ∙ ap (entries (t .slots)) (sym (same-places c l))) u
+  entry-at : (c i : ℕ) → c < 16 → i < 128 → 0 < times i (places s c) → entryOf i (slotAt (s .slots) i) ≡ entryOf i (slotAt (t .slots) i)
+  entry-at c i l m u =
+      let z = sym (slot-item (s .slots) (s .queries) i m) ∙ item-at c i l u ∙ slot-item (t .slots) (t .queries) i m in cc
 
   same-slot : (i : ℕ) → i < 128 → slotAt (s .slots) i ≡ slotAt (t .slots) i
   same-slot i l = go (g .free-or-valid i l) (h .free-or-valid i l)
@@ -156,7 +190,7 @@ module _ (s t : Store) (base wrk base′ wrk′ : List ℕ) (v : Shaped s) (w : 
       clash x y a b e = let n : stands (x .class) y ≡ 0 = rw b in omega (arith, stands-there x a)
 
       both : (c : ℕ) → c < 16 → stands c (slotAt (s .slots) i) ≡ stands c (slotAt (t .slots) i)
-      both c l = sym (g .exactly-once c i l) ∙ ap (times i) (same-places c l) ∙ h .exactly-once c i l
+      both c k = sym (slot-stands s c i l) ∙ sym (g .exactly-once c i k) ∙ ap (times i) (same-places c k) ∙ h .exactly-once c i k ∙ slot-stands t c i l
 
       go : (slotAt (s .slots) i ≡ freeSlot) ⊎ Holds (slotAt (s .slots) i) → (slotAt (t .slots) i ≡ freeSlot) ⊎ Holds (slotAt (t .slots) i)
           → slotAt (s .slots) i ≡ slotAt (t .slots) i
@@ -166,14 +200,40 @@ module _ (s t : Store) (base wrk base′ wrk′ : List ℕ) (v : Shaped s) (w : 
       go (inr a) (inr b) =
           let c = slotAt (s .slots) i .class in
           let k = has-class (slotAt (s .slots) i) a in
-          let u : 0 < times i (places s c) = omega (arith, g .exactly-once c i k, stands-there (slotAt (s .slots) i) a) in
-          sym (slot-back i (slotAt (s .slots) i) (v .ops i l) a) ∙ ap slotBack (entry-at c i k u) ∙ slot-back i (slotAt (t .slots) i) (w .ops i l) b
+          let u : 0 < times i (places s c) = omega (arith, g .exactly-once c i k, slot-stands s c i l, stands-there (slotAt (s .slots) i) a) in
+          sym (slot-back i (slotAt (s .slots) i) (v .ops i l) a) ∙ ap slotBack (entry-at c i k l u) ∙ slot-back i (slotAt (t .slots) i) (w .ops i l) b
 
   same-slots : s .slots ≡ t .slots
   same-slots = ext-getD noSlot (s .slots) (t .slots) (omega (arith, v .slots, w .slots)) (λ i l. same-slot i (omega (arith, v .slots)))
 
   same-map : (s .low ≡ t .low) × (s .high ≡ t .high)
   same-map = used-inj (s .low) (s .high) (t .low) (t .high) (v .low) (v .high) (w .low) (w .high) (g .map-agrees ∙ ap (map isUsed) same-slots ∙ sym (h .map-agrees))
+
+  -- a query: the classes that it has still to read, and its beginning, which its entries tell
+  same-query : (p : ℕ) → queryAt (s .queries) p ≡ queryAt (t .queries) p
+  same-query p = λ i. record { classes = same-classes i; begun = same-begun (some-named (queryAt (s .queries) p .classes) (v .masks p)) i }
+    where
+      flag : (a b : Bool) → _≡_ {A = ℕ} (cond a 1 0) (cond b 1 0) → a ≡ b
+      flag true true e = refl
+      flag true false e = absurd (omega arith)
+      flag false true e = absurd (omega arith)
+      flag false false e = refl
+
+      same-classes : queryAt (s .queries) p .classes ≡ queryAt (t .queries) p .classes
+      same-classes = mask-inj (queryAt (s .queries) p .classes) (queryAt (t .queries) p .classes) (v .masks p) (w .masks p) (λ c l.
+          flag _ _ (sym (query-stands s c p) ∙ sym (g .exactly-once c (128 + p) l) ∙ ap (times (128 + p)) (same-places c l) ∙ h .exactly-once c (128 + p) l ∙ query-stands t c p))
+
+      same-begun : (queryAt (s .queries) p .classes ≡ 0) ⊎ ((c : ℕ) × (c < 16) × (named (queryAt (s .queries) p .classes) c ≡ true))
+          → queryAt (s .queries) p .begun ≡ queryAt (t .queries) p .begun
+      same-begun (inl z) = g .free-queries-zero p z ∙ sym (h .free-queries-zero p (sym same-classes ∙ z))
+      same-begun (inr y) =
+          let one : standsAt s (y .0) (128 + p) ≡ 1 = query-stands s (y .0) p ∙ rw (y .2) in
+          let u : 0 < times (128 + p) (places s (y .0)) = omega (arith, g .exactly-once (y .0) (128 + p) (y .1)) in
+          let z = sym (query-item (s .slots) (s .queries) p) ∙ item-at (y .0) (128 + p) (y .1) u ∙ query-item (t .slots) (t .queries) p in
+          ap Q.line z
+
+  same-queries : s .queries ≡ t .queries
+  same-queries = ext-getD freeQuery (s .queries) (t .queries) (omega (arith, v .queries, w .queries)) (λ p l. same-query p)
 
   -- the place of a number kept, and one that is unused
   same-kept-at : (p : ℕ) → p < 256 → getD (s .kept) p 0 ≡ getD (t .kept) p 0
@@ -198,6 +258,8 @@ module _ (s t : Store) (base wrk base′ wrk′ : List ℕ) (v : Shaped s) (w : 
     confirmations = e .confirmations i;
     commits = e .commits i;
     kept = same-kept i;
+    queries = same-queries i;
+    begun = e .queries i;
   }
 
   -- and the cells

@@ -7,18 +7,19 @@ use mathlib.Core.List.{List}
 use lib.ListN.{length, take, drop, set, replicate, length-drop, length-set, length-replicate, getD-replicate}
 use lib.Seq.{length-take-le, getD-set-same, getD-set-other}
 use borrow.Author.Count.{below-none, below-more}
-use lib.Dec.{eqb}
-use borrow.Author.Tests.{eqb-true, eqb-false, eq-eqb, ne-eqb}
+use lib.Dec.{eqb, ltb}
+use borrow.Author.Tests.{eqb-true, eqb-false, eq-eqb, ne-eqb, ltb-true, ltb-false, lt-ltb, le-ltb}
 use Rattle.plain.specs.Decides.{Decides}
 use Rattle.plain.proofs.Tests.{by-test}
 use Rattle.plain.proofs.Deciding.{decides-as}
-use Rattle.plain.specs.Queue.{Entry}
+use Rattle.plain.specs.Queue.{Item}
+use Rattle.plain.specs.Sound.{AtHead}
 use Rattle.slots.specs.Meaning.{slotAt}
 use Rattle.slots.specs.Steps.{HeadOk}
 use Rattle.slots.specs.declared.Slot.{Slot}
-use Rattle.store.proofs.Flat.{empty, headed, head-small, head-holds}
+use Rattle.store.proofs.Places.{empty, headed, head-holds}
 use Rattle.store.specs.Checks.{CellsAt, CellsOk, HeadCells, Heads, HeadsHold, headOf, nth}
-use Rattle.store.specs.Meaning.{cellsOf, lenOf, queueOf}
+use Rattle.store.specs.Meaning.{cellsOf, itemAt, lenOf, queueOf}
 use Rattle.store.specs.Sound.{Cells, Once, Short, SlotsOk}
 use Rattle.store.specs.Store.{Shaped, Store}
 
@@ -50,39 +51,40 @@ module _ (queue lens : List ℕ) where
       rest = λ k m n. h .rest k m (omega arith);
     }
 
-    pub heads-more : (nth lens c ≡ 0 → ⊥) → HeadsTo queue lens (set heads c (nth queue (128 * c))) (c + 1)
+    pub heads-more : (nth lens c ≡ 0 → ⊥) → HeadsTo queue lens (set heads c (nth queue (136 * c))) (c + 1)
     heads-more n = record {
-      long = length-set heads c (nth queue (128 * c)) ∙ h .long;
-      found = below-more (λ k. nth (set heads c (nth queue (128 * c))) k ≡ headOf queue lens k) c
-          (λ k m. getD-set-other heads c k (nth queue (128 * c)) 0 (λ e. omega arith) ∙ h .found k m)
-          (rw (ne-eqb (nth lens c) 0 n) (getD-set-same heads c (nth queue (128 * c)) 0 (omega (arith, h .long))));
-      rest = λ k m o. getD-set-other heads c k (nth queue (128 * c)) 0 (λ e. omega arith) ∙ h .rest k m (omega arith);
+      long = length-set heads c (nth queue (136 * c)) ∙ h .long;
+      found = below-more (λ k. nth (set heads c (nth queue (136 * c))) k ≡ headOf queue lens k) c
+          (λ k m. getD-set-other heads c k (nth queue (136 * c)) 0 (λ e. omega arith) ∙ h .found k m)
+          (rw (ne-eqb (nth lens c) 0 n) (getD-set-same heads c (nth queue (136 * c)) 0 (omega (arith, h .long))));
+      rest = λ k m o. getD-set-other heads c k (nth queue (136 * c)) 0 (λ e. omega arith) ∙ h .rest k m (omega arith);
     }
 
--- the rule of one class, as the check decides it: where its queue is empty, and where it has a head
+-- the rule of one class, as the check decides it: where no slot is its head, and where one is
 module _ (slots : List Slot) (head c : ℕ) (base wrk : List ℕ) (b : Bool) where
-  pub at-empty : head ≡ 128 → Decides b (lent wrk c ≡ lent base c) → Decides b (CellsAt slots head (cellsOf base c) (cellsOf wrk c))
+  pub at-empty : 128 ≤ head → Decides b (lent wrk c ≡ lent base c) → Decides b (CellsAt slots head (cellsOf base c) (cellsOf wrk c))
   at-empty e d =
-      decides-as (λ h. record { empty = λ _. h; headed = λ n. absurd (n e) }) (λ h. h .empty e) (rw (lent-is wrk c, lent-is base c) at d)
+      decides-as (λ h. record { empty = λ _. h; headed = λ n. absurd (omega arith) }) (λ h. h .empty e) (rw (lent-is wrk c, lent-is base c) at d)
 
-  pub at-head : (head ≡ 128 → ⊥) → HeadOk b (slotAt slots head) (lent base c) (lent wrk c) → Decides b (CellsAt slots head (cellsOf base c) (cellsOf wrk c))
+  pub at-head : head < 128 → HeadOk b (slotAt slots head) (lent base c) (lent wrk c) → Decides b (CellsAt slots head (cellsOf base c) (cellsOf wrk c))
   at-head n d =
-      decides-as (λ h. record { empty = λ e. absurd (n e); headed = λ _. h }) (λ h. h .headed n) (rw (lent-is wrk c, lent-is base c) at (d head))
+      decides-as (λ h. record { empty = λ e. absurd (omega arith); headed = λ _. h }) (λ h. h .headed n) (rw (lent-is wrk c, lent-is base c) at (d head))
 
 module _ (s : Store) (w : Shaped s) (ok : SlotsOk s) (short : Short (s .lens)) (once : Once s) (heads : List ℕ) (h : Heads (s .queue) (s .lens) heads) where
   none-there : (c : ℕ) → c < 16 → lenOf s c ≡ 0 → nth heads c ≡ 128
   none-there c l z = h c l ∙ rw (eq-eqb (lenOf s c) 0 z)
 
-  one-there : (c : ℕ) → c < 16 → 0 < lenOf s c → nth heads c ≡ nth (s .queue) (128 * c)
+  one-there : (c : ℕ) → c < 16 → 0 < lenOf s c → nth heads c ≡ nth (s .queue) (136 * c)
   one-there c l k = h c l ∙ rw (ne-eqb (lenOf s c) 0 (λ e. omega arith))
 
-  -- what stands as head is a slot that holds a valid record
+  -- a slot that stands as head holds a valid record
   pub heads-hold : HeadsHold (s .slots) heads
   heads-hold c l n = by-test (eqb (lenOf s c) 0)
-      (λ t. absurd (n (none-there c l (eqb-true (lenOf s c) 0 t))))
+      (λ t. let e = none-there c l (eqb-true (lenOf s c) 0 t) in absurd (omega arith))
       (λ f. let ne = eqb-false (lenOf s c) 0 f in
       let k : 0 < lenOf s c = omega arith in
-      rw (one-there c l k) (head-small s w short once c l k, head-holds s w short ok once c l k))
+      let e = one-there c l k in
+      rw e (head-holds s w short ok once c l k (omega arith)))
 
   module _ (base wrk : List ℕ) where
     abbrev By : ℕ → Type 0
@@ -91,26 +93,35 @@ module _ (s : Store) (w : Shaped s) (ok : SlotsOk s) (short : Short (s .lens)) (
     abbrev Of : ℕ → Type 0
     Of c = Cells (queueOf s c) (cellsOf base c) (cellsOf wrk c)
 
+    -- what an item asks of the cells as head, by its place
+    headed-is : (b : ℕ) (v w : List ℕ) → CellsAt (s .slots) b v w → AtHead (itemAt (s .slots) (s .queries) b) v w
+    headed-is b v w r = by-test (ltb b 128) (λ t. rw t (r .headed (ltb-true b 128 t))) (λ f. rw f (r .empty (ltb-false b 128 f)))
+
+    headed-of : (b : ℕ) (v w : List ℕ) → AtHead (itemAt (s .slots) (s .queries) b) v w → CellsAt (s .slots) b v w
+    headed-of b v w r = record {
+      empty = λ k. rw (le-ltb b 128 k) at r;
+      headed = λ k. rw (lt-ltb b 128 k) at r;
+    }
+
     of-head : (c : ℕ) → c < 16 → By c → Of c
     of-head c l r = by-test (eqb (lenOf s c) 0)
-        (λ t. let z = eqb-true (lenOf s c) 0 t in rw (empty s w short c l z) (r .empty (none-there c l z)))
+        (λ t. let z = eqb-true (lenOf s c) 0 t in let e = none-there c l z in rw (empty s w short c l z) (r .empty (omega arith)))
         (λ f. let ne = eqb-false (lenOf s c) 0 f in
         let k : 0 < lenOf s c = omega arith in
         let e = one-there c l k in
-        subst (λ (q : List Entry). Cells q (cellsOf base c) (cellsOf wrk c)) (sym (headed s w short c l k))
-        (rw e at (r .headed (λ z. omega (arith, head-small s w short once c l k)))))
+        subst (λ (q : List Item). Cells q (cellsOf base c) (cellsOf wrk c)) (sym (headed s w short c l k))
+        (headed-is (nth (s .queue) (136 * c)) (cellsOf base c) (cellsOf wrk c) (rw e at r)))
 
     by-head : (c : ℕ) → c < 16 → Of c → By c
     by-head c l r = by-test (eqb (lenOf s c) 0)
         (λ t. let z = eqb-true (lenOf s c) 0 t in
-        record { empty = λ _. rw (empty s w short c l z) at r; headed = λ n. absurd (n (none-there c l z)) })
+        let e = none-there c l z in
+        record { empty = λ _. rw (empty s w short c l z) at r; headed = λ n. absurd (omega arith) })
         (λ f. let ne = eqb-false (lenOf s c) 0 f in
         let k : 0 < lenOf s c = omega arith in
         let e = one-there c l k in
-        record {
-          empty = λ z. absurd (omega (arith, head-small s w short once c l k));
-          headed = λ _. rw e (subst (λ (q : List Entry). Cells q (cellsOf base c) (cellsOf wrk c)) (headed s w short c l k) r);
-        })
+        rw e (headed-of (nth (s .queue) (136 * c)) (cellsOf base c) (cellsOf wrk c)
+        (subst (λ (q : List Item). Cells q (cellsOf base c) (cellsOf wrk c)) (headed s w short c l k) r)))
 
     -- the rule by heads is the rule by queues
     pub cells-is : {b : Bool} → Decides b (HeadCells (s .slots) heads base wrk) → Decides b (CellsOk s base wrk)

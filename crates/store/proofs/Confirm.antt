@@ -3,11 +3,11 @@ use Prim.Native.Nat.{ℕ, suc, _+_, _-_, _<_, _≤_}
 use native.Mathlib.Omega.{arith}
 use mathlib.Core.Path.{_≡_, refl, sym, ap, _∙_}
 use mathlib.Core.Logic.{_⊎_}
-use mathlib.Core.Bool.{false, not}
+use mathlib.Core.Bool.{false}
 use mathlib.Core.List.{List, _∷_, map}
 use lib.ListN.{length, getD, take, drop, set, length-map, List·getD-map}
 use lib.Seq.{split-at, take-take}
-use borrow.Author.Tests.{eq-eqb}
+use borrow.Author.Tests.{eq-eqb, lt-ltb}
 use Rattle.plain.specs.Queue as Q
 use Rattle.plain.specs.Steps as K
 use Rattle.store.proofs.Lists.{map-drop, map-moved, map-take}
@@ -18,10 +18,12 @@ use Rattle.slots.specs.Rules.{Holds}
 use Rattle.slots.specs.declared.Slot.{Slot}
 use Rattle.store.proofs.Lists.{times-append}
 use Rattle.store.proofs.Moving.{Confirmed, moved-is, times-moved}
-use Rattle.store.proofs.Relaid.{Queued, at-stored, entries-kept, relaid}
-use Rattle.store.specs.Meaning.{entries, places}
-use Rattle.store.specs.Sound.{Laid, stands, times, Unused}
+use Rattle.store.proofs.Relaid.{Queued, at-stored, items-kept, relaid}
+use Rattle.store.proofs.Canonical.{slot-item}
+use Rattle.store.specs.Meaning.{itemAt, items, places}
+use Rattle.store.specs.Sound.{Laid, standsAt, times, Unused}
 use Rattle.store.specs.Steps.{withNumber, asPutBack}
+use Rattle.queries.specs.declared.Query.{Query}
 use Rattle.store.specs.Store.{Shaped, Store}
 use Rattle.usedmap.specs.Flags.{usedOf}
 
@@ -41,14 +43,15 @@ module _ (i : ℕ) (ps : List ℕ) (from : ℕ) (l : from < length ps) (at : get
       (omega arith, omega arith)
 
   -- its slot is stored and its place moved: in the queue, its new entry is moved
-  pub entries-moved : (sl : List Slot) (v : Slot) (m : i < length sl) (to : ℕ) → to ≤ from
-      → entries (set sl i v) (movedUp i ps from to) ≡ movedUp (entryOf i v) (entries sl ps) from to
-  entries-moved sl v m to k =
-      map-moved (λ j. entryOf j (slotAt (set sl i v) j)) i ps from to
-      ∙ ap (λ (x : Slot). movedUp (entryOf i x) (entries (set sl i v) ps) from to) (at-stored sl i v m)
-      ∙ moved-cong (entryOf i v) (entries (set sl i v) ps) (entries sl ps) from to k
-      (sym (map-take _ from ps) ∙ entries-kept sl i v m (take from ps) (apart .0) ∙ map-take _ from ps)
-      (sym (map-drop _ (suc from) ps) ∙ entries-kept sl i v m (drop (suc from) ps) (apart .1) ∙ map-drop _ (suc from) ps)
+  pub items-moved : (sl : List Slot) (qs : List Query) (v : Slot) (m : i < length sl) (small : i < 128) (to : ℕ) → to ≤ from
+      → items (set sl i v) qs (movedUp i ps from to) ≡ movedUp (Q.booking (entryOf i v)) (items sl qs ps) from to
+  items-moved sl qs v m small to k =
+      map-moved (itemAt (set sl i v) qs) i ps from to
+      ∙ ap (λ (x : Q.Item). movedUp x (items (set sl i v) qs ps) from to)
+      (slot-item (set sl i v) qs i small ∙ ap (λ (x : Slot). Q.booking (entryOf i x)) (at-stored sl i v m))
+      ∙ moved-cong (Q.booking (entryOf i v)) (items (set sl i v) qs ps) (items sl qs ps) from to k
+      (sym (map-take _ from ps) ∙ items-kept sl i v m qs (take from ps) (apart .0) ∙ map-take _ from ps)
+      (sym (map-drop _ (suc from) ps) ∙ items-kept sl i v m qs (drop (suc from) ps) (apart .1) ∙ map-drop _ (suc from) ps)
 
 -- what a slot holds and where it stands does not go by its number and its progress
 pub holds-kept : (u v : Slot) → v .count ≡ u .count → v .ops ≡ u .ops → requestOf v ≡ requestOf u → Holds u → Holds v
@@ -64,35 +67,35 @@ module _ (s t : Store) (w : Shaped s) (h : Laid s) (c from to : ℕ) (l : c < 16
     (q : Queued s t c (movedUp (getD (places s c) from 0) (places s c) from to))
     (kept : (j : ℕ) → (slotAt (t .slots) j .id ≡ slotAt (s .slots) j .id) × (slotAt (t .slots) j .class ≡ slotAt (s .slots) j .class))
     (valid : (j : ℕ) → j < 128 → (slotAt (t .slots) j ≡ freeSlot) ⊎ Holds (slotAt (t .slots) j))
-    (map′ : usedOf (t .low) (t .high) ≡ usedOf (s .low) (s .high)) (flags : map isUsed (t .slots) ≡ map isUsed (s .slots)) (unused : Unused t) where
+    (map′ : usedOf (t .low) (t .high) ≡ usedOf (s .low) (s .high)) (flags : map isUsed (t .slots) ≡ map isUsed (s .slots)) (unused : Unused t) (qs : t .queries ≡ s .queries) where
   pub confirm-laid : Laid t
   confirm-laid = relaid s t c (movedUp (getD (places s c) from 0) (places s c) from to) q h (record {
     slots = valid;
     own = λ j. times-moved j (places s c) from to m k ∙ h .exactly-once c j l ∙ sym (same c j);
     others = λ d j _ ne. same d j;
     used = map′ ∙ h .map-agrees ∙ sym flags;
-  }) unused
+  }) unused (rw qs (h .free-queries-zero))
     where
-      same : (d j : ℕ) → stands d (slotAt (t .slots) j) ≡ stands d (slotAt (s .slots) j)
-      same d j = rw (kept j .0, kept j .1)
+      same : (d j : ℕ) → standsAt t d j ≡ standsAt s d j
+      same d j = rw (qs, kept j .0, kept j .1)
 
 -- the queue: the head as it is, and the head put back
-module _ (sl : List Slot) (ps : List ℕ) (i from to n : ℕ) (l : from < length ps) (k : to ≤ from) (at : getD ps from 0 ≡ i) (one : times i ps ≡ 1) (m : i < length sl)
-    (first : Q.has (slotAt sl i .id) (take from (entries sl ps)) ≡ false) (a : All Confirmed (take to (entries sl ps))) (b : All Waiting (drop to (entries sl ps))) where
-  pub confirm-queue : entries (set sl i (withNumber n (slotAt sl i))) (movedUp i ps from to) ≡ K.moved (slotAt sl i .id) n (entries sl ps)
+module _ (sl : List Slot) (qs : List Query) (ps : List ℕ) (i from to n : ℕ) (l : from < length ps) (k : to ≤ from) (at : getD ps from 0 ≡ i) (one : times i ps ≡ 1) (m : i < length sl) (small : i < 128)
+    (first : Q.has (slotAt sl i .id) (take from (items sl qs ps)) ≡ false) (a : All Confirmed (take to (items sl qs ps))) (b : All Waiting (drop to (items sl qs ps))) where
+  pub confirm-queue : items (set sl i (withNumber n (slotAt sl i))) qs (movedUp i ps from to) ≡ K.moved (slotAt sl i .id) n (items sl qs ps)
   confirm-queue =
-      entries-moved i ps from l at one sl (withNumber n (slotAt sl i)) m to k
-      ∙ ap (λ (e : Q.Entry). movedUp (K.numbered n e) (entries sl ps) from to) (sym here)
-      ∙ sym (moved-is (slotAt sl i .id) n (entries sl ps) from to none (omega (arith, length-map ps (λ j. entryOf j (slotAt sl j)))) k (ap Q.idOf here) first a b)
+      items-moved i ps from l at one sl qs (withNumber n (slotAt sl i)) m small to k
+      ∙ ap (λ (e : Q.Item). movedUp (K.numbered n e) (items sl qs ps) from to) (sym here)
+      ∙ sym (moved-is (slotAt sl i .id) n (items sl qs ps) from to none (omega (arith, length-map ps (itemAt sl qs))) k (ap (Q.idIs (slotAt sl i .id)) here ∙ eq-eqb (slotAt sl i .id) (slotAt sl i .id) refl) first a b)
     where
-      none : Q.Entry
-      none = entryOf 0 (slotAt sl 0)
+      none : Q.Item
+      none = itemAt sl qs 0
 
-      here : getD (entries sl ps) from (entryOf 0 (slotAt sl 0)) ≡ entryOf i (slotAt sl i)
-      here = List·getD-map (λ j. entryOf j (slotAt sl j)) ps from 0 ∙ ap (λ (j : ℕ). entryOf j (slotAt sl j)) at
+      here : getD (items sl qs ps) from (itemAt sl qs 0) ≡ Q.booking (entryOf i (slotAt sl i))
+      here = List·getD-map (itemAt sl qs) ps from 0 ∙ ap (itemAt sl qs) at ∙ slot-item sl qs i small
 
-pub back-queue : (sl : List Slot) (h : ℕ) (ps : List ℕ) (m : h < length sl) → times h ps ≡ 0
-    → entries (set sl h (asPutBack (slotAt sl h))) (h ∷ ps) ≡ K.putBack (entryOf h (slotAt sl h)) ∷ entries sl ps
-back-queue sl h ps m z =
+pub back-queue : (sl : List Slot) (qs : List Query) (h : ℕ) (ps : List ℕ) (m : h < length sl) → h < 128 → times h ps ≡ 0
+    → items (set sl h (asPutBack (slotAt sl h))) qs (h ∷ ps) ≡ K.putBack (Q.booking (entryOf h (slotAt sl h))) ∷ items sl qs ps
+back-queue sl qs h ps m small z =
     let one : slotAt sl h .backs + 1 ≡ suc (slotAt sl h .backs) = omega arith in
-    rw (at-stored sl h (asPutBack (slotAt sl h)) m, entries-kept sl h (asPutBack (slotAt sl h)) m ps z, one)
+    rw (lt-ltb h 128 small, at-stored sl h (asPutBack (slotAt sl h)) m, items-kept sl h (asPutBack (slotAt sl h)) m qs ps z, one)

@@ -3,8 +3,8 @@
 use Prim.Native.Nat.{ℕ, zero, suc, _+_, _*_, _-_, _<_, _≤_}
 use native.Mathlib.Omega.{arith}
 use mathlib.Core.Path.{_≡_, refl, sym, ap, _∙_, subst}
-use mathlib.Core.Logic.{inl, inr}
-use mathlib.Core.Bool.{false, not, and-false}
+use mathlib.Core.Logic.{_⊎_, inl, inr}
+use mathlib.Core.Bool.{true, false, and-false}
 use mathlib.Core.Option.{some}
 use mathlib.Core.List.{List, [], _∷_}
 use lib.Dec.{eqb, ltb}
@@ -14,22 +14,24 @@ use Rattle.plain.specs.Queue as Q
 use Rattle.plain.specs.Steps as K
 use Rattle.plain.specs.Site as S
 use Rattle.plain.specs.Sound.{All, Waiting, InOrder}
-use Rattle.plain.proofs.Tests.{by-test}
+use Rattle.plain.proofs.Tests.{by-test, no}
+use Rattle.plain.proofs.Items.{follows-confirmed, waiting-unconfirmed}
 use Rattle.plain.proofs.Queues.{waits-all}
 use Rattle.slots.specs.declared.Slot.{Slot}
 use Rattle.slots.specs.Meaning.{entryOf, isUsed, slotAt}
 use Rattle.slots.specs.Rules.{Holds}
+use Rattle.queries.specs.declared.Query.{Query}
 use Rattle.store.specs.Store.{Store, Shaped}
-use Rattle.store.specs.Meaning.{lenOf, places, entries, queueOf, cellsOf, plain, plainClass, Same}
+use Rattle.store.specs.Meaning.{lenOf, places, itemAt, items, queueOf, cellsOf, plain, plainClass, Same}
 use Rattle.store.specs.Sound.{times, Laid, Apart}
 use Rattle.store.specs.Calls.{State, RightCells, SoundState, Did, plainOf}
 use Rattle.store.specs.Steps.{withSlot, headSlot, asPutBack, PutBack, PlaceOf, FirstWaiting, Forward}
-use Rattle.store.proofs.Canonical.{has-id, places-length}
+use Rattle.store.proofs.Canonical.{has-id, places-length, slot-item, slot-stands}
 use Rattle.store.proofs.Walk.{place-at}
-use Rattle.store.proofs.Relaid.{by-slot, elsewhere, entries-kept}
+use Rattle.store.proofs.Relaid.{by-slot, elsewhere, items-kept}
 use Rattle.store.proofs.Moving.{Confirmed}
 use Rattle.store.proofs.Confirm.{back-queue, holds-kept}
-use Rattle.store.proofs.Commit.{head-is, head-small, stands-class}
+use Rattle.store.proofs.Commit.{head-is, stands-class}
 use Rattle.store.proofs.Promise.{sound-kept, same-trans}
 use Rattle.store.proofs.Asked.{there, one-id}
 use Rattle.store.proofs.Confirming.{outcome, class-here, held}
@@ -38,20 +40,26 @@ use Rattle.slots.proofs.Records.{ops-count}
 use Rattle.store.proofs.Forward.{kept, forward-laid, forward-queue, forward-means}
 
 -- the confirmed part and the waiting part of a queue in order, by the first place that waits
-split-order : (l : List Slot) (m top : ℕ) (ps : List ℕ) (to : ℕ) → InOrder m top (entries l ps) → to ≤ length ps
-    → ((k : ℕ) → k < to → 0 < slotAt l (getD ps k 0) .number) → (to < length ps → slotAt l (getD ps to 0) .number ≡ 0)
-    → All Confirmed (take to (entries l ps)) × All Waiting (drop to (entries l ps))
-split-order l m top [] zero o h a b = (tt, tt)
-split-order l m top [] (suc to) o h a b = absurd (omega arith)
-split-order l m top (p ∷ ps) zero (inl o) h a b = absurd (omega (arith, b (omega arith)))
-split-order l m top (p ∷ ps) zero (inr o) h a b = (tt, o)
-split-order l m top (p ∷ ps) (suc to) (inl o) h a b =
-    let r = split-order l (slotAt l p .number) top ps to (o .2) (omega arith) (λ k u. a (suc k) (omega arith)) (λ u. b (omega arith)) in
-    ((lt-ltb 0 (slotAt l p .number) (omega arith), r .0), r .1)
-split-order l m top (p ∷ ps) (suc to) (inr o) h a b = absurd (omega (arith, a 0 (omega arith), o .0))
+pub split-order : (l : List Slot) (qs : List Query) (m top : ℕ) (ps : List ℕ) (to : ℕ) → InOrder m top (items l qs ps) → to ≤ length ps
+    → ((k : ℕ) → k < to → (128 ≤ getD ps k 0) ⊎ (0 < slotAt l (getD ps k 0) .number))
+    → (to < length ps → (getD ps to 0 < 128) × (slotAt l (getD ps to 0) .number ≡ 0))
+    → All Confirmed (take to (items l qs ps)) × All Waiting (drop to (items l qs ps))
+split-order l qs m top [] zero o h a b = (tt, tt)
+split-order l qs m top [] (suc to) o h a b = absurd (omega arith)
+split-order l qs m top (p ∷ ps) zero (inl o) h a b =
+    let z = b (omega arith) in no _ (follows-confirmed m (itemAt l qs p) (o .0)) (rw (lt-ltb p 128 (z .0)) (le-ltb 0 (slotAt l p .number) (omega (arith, z .1))))
+split-order l qs m top (p ∷ ps) zero (inr o) h a b = (tt, o)
+split-order l qs m top (p ∷ ps) (suc to) (inl o) h a b =
+    let r = split-order l qs (Q.line (itemAt l qs p)) top ps to (o .2) (omega arith) (λ k u. a (suc k) (omega arith)) (λ u. b (omega arith)) in
+    ((follows-confirmed m (itemAt l qs p) (o .0), r .0), r .1)
+split-order l qs m top (p ∷ ps) (suc to) (inr o) h a b = no _ (confirmed (a 0 (omega arith))) (waiting-unconfirmed (itemAt l qs p) (o .0))
+  where
+    confirmed : (128 ≤ p) ⊎ (0 < slotAt l p .number) → Q.isConfirmed (itemAt l qs p) ≡ true
+    confirmed (inl z) = rw (le-ltb p 128 z)
+    confirmed (inr z) = by-test (ltb p 128) (λ t. rw t (lt-ltb 0 (slotAt l p .number) z)) (λ f. rw f)
 
 -- a slot that takes another value of the same record leaves the shape
-kept-shaped : (s : Store) → Shaped s → (i : ℕ) (u : Slot) → i < 128 → length (u .ops) ≡ 7 → u .id ≡ slotAt (s .slots) i .id → Shaped (withSlot s i u)
+pub kept-shaped : (s : Store) → Shaped s → (i : ℕ) (u : Slot) → i < 128 → length (u .ops) ≡ 7 → u .id ≡ slotAt (s .slots) i .id → Shaped (withSlot s i u)
 kept-shaped s w i u m n e = record {
   slots = length-set (s .slots) i u ∙ w .slots;
   ops = by-slot (s .slots) i u inside (λ j v. j < 128 → length (v .ops) ≡ 7) (λ _. n) (λ j ne l. w .ops j l);
@@ -61,6 +69,8 @@ kept-shaped s w i u m n e = record {
   low = w .low;
   high = w .high;
   kept = w .kept;
+  queries = w .queries;
+  masks = w .masks;
 }
   where
     inside : i < length (s .slots)
@@ -105,19 +115,23 @@ module _ (x : State) (w : Shaped (x .site)) (r : RightCells x) (q : SoundState x
   holds : Holds v
   holds = held x w r q id n (f .more) (f .next) i (f .small) (f .is) (f .positive) (f .waits)
 
-  in-place : (a : ℕ) → a < lenOf s c → getD (places s c) a 0 ≡ getD (s .queue) (128 * c + a) 0
-  in-place a u = place-at s w c class-small (q .laid .not-longer-than-128 c class-small) a u
+  in-place : (a : ℕ) → a < lenOf s c → getD (places s c) a 0 ≡ getD (s .queue) (136 * c + a) 0
+  in-place a u = place-at s w c class-small (q .laid .not-longer-than-136 c class-small) a u
 
   long : length (places s c) ≡ lenOf s c
   long = places-length s w (q .laid) c class-small
 
   pub forward : to ≤ from
   forward = by-test (ltb from to)
-      (λ t. absurd (omega (arith, f .first .before from (ltb-true from to t), ap (λ (j : ℕ). slotAt (s .slots) j .number) (f .place .is), f .waits)))
+      (λ t. absurd (waits-here (f .first .before from (ltb-true from to t))))
       (λ g. ltb-false from to g)
+    where
+      waits-here : (128 ≤ getD (s .queue) (136 * c + from) 0) ⊎ (0 < slotAt (s .slots) (getD (s .queue) (136 * c + from) 0) .number) → ⊥
+      waits-here (inl z) = omega (arith, f .place .is, f .small)
+      waits-here (inr z) = omega (arith, ap (λ (j : ℕ). slotAt (s .slots) j .number) (f .place .is), f .waits)
 
   parts : All Confirmed (take to (queueOf s c)) × All Waiting (drop to (queueOf s c))
-  parts = split-order (s .slots) 0 (s .confirmations) (places s c) to (q .confirmed-before-waiting c class-small) (omega (arith, long, f .first .within))
+  parts = split-order (s .slots) (s .queries) 0 (s .confirmations) (places s c) to (q .confirmed-before-waiting c class-small) (omega (arith, long, f .first .within))
       (λ a u. rw (in-place a (omega (arith, f .first .within))) (f .first .before a u))
       (λ u. rw (in-place to (omega (arith, long))) (f .first .waits (omega (arith, long))))
 
@@ -137,19 +151,23 @@ module _ (x : State) (w : Shaped (x .site)) (r : RightCells x) (q : SoundState x
   head-places : places s c ≡ hd ∷ ps
   head-places = head-is s w (q .laid) c class-small some-left
 
-  head-queue : queueOf s c ≡ entryOf hd u ∷ entries (s .slots) ps
-  head-queue = ap (entries (s .slots)) head-places
+  -- what stands there: a request, or an entry of a query
+  abbrev hi : Q.Item
+  hi = itemAt (x .site .slots) (x .site .queries) (headSlot (x .site) (slotAt (x .site .slots) i .class))
 
-  hd-small : hd < 128
-  hd-small = head-small s w (q .laid) c class-small some-left
+  head-queue : queueOf s c ≡ hi ∷ items (s .slots) (s .queries) ps
+  head-queue = ap (items (s .slots) (s .queries)) head-places
 
-  hd-holds : Holds u
-  hd-holds = head-held x w r q c class-small some-left
+  hd-holds : hd < 128 → Holds u
+  hd-holds small = head-held x w r q c class-small some-left small
 
-  -- another slot has another id
-  other-id : (hd ≡ i → ⊥) → eqb (u .id) id ≡ false
-  other-id ne = ne-eqb (u .id) id (λ e.
-      ne (one-id (λ j. slotAt (s .slots) j .id) (q .ids-differ) hd i hd-small (f .small) (has-id u hd-holds) (e ∙ sym (f .is))))
+  -- another slot has another id, and an entry none
+  other-id : (hd ≡ i → ⊥) → Q.idIs id hi ≡ false
+  other-id ne =
+      by-test (ltb hd 128)
+      (λ t. let small = ltb-true hd 128 t in
+      rw (t, ne-eqb (u .id) id (λ e. ne (one-id (λ j. slotAt (s .slots) j .id) (q .ids-differ) hd i small (f .small) (has-id u (hd-holds small)) (e ∙ sym (f .is))))))
+      (λ g. rw g)
 
   called : S.call p k ≡ S.inClass p c (some id) (K.confirmStep id n (p .class c))
   called = outcome x w r q id n (f .more) (f .next) i (f .small) (f .is) (f .positive) (f .waits)
@@ -158,18 +176,19 @@ module _ (x : State) (w : Shaped (x .site)) (r : RightCells x) (q : SoundState x
   pub record Goes (t : Store) (wrk′ : List ℕ) (back : ℕ) : Type 0 where
     pub sound : SoundState (record { site = t; committed = base; working = wrk′ })
     pub same-id : slotAt (t .slots) i .id ≡ id
-    pub answers : (W : ℕ) → W ≡ Q.owed (slotAt (t .slots) i .id) (queueOf t c) → Did x k (record { site = t; committed = base; working = wrk′ }) (K.waiting id W back)
+    pub answers : (W : ℕ) → W ≡ Q.owed (slotAt (t .slots) i .id) (queueOf t c)
+        → Did x k (record { site = t; committed = base; working = wrk′ }) (K.waiting id W back)
 
-  goes : (t : Store) (wrk′ : List ℕ) (back : ℕ) (queue : List Q.Entry) → length wrk′ ≡ 1024 → length (t .slots) ≡ 128 → slotAt (t .slots) i .id ≡ id → Laid t
+  goes : (t : Store) (wrk′ : List ℕ) (back : ℕ) (queue : List Q.Item) → length wrk′ ≡ 1024 → length (t .slots) ≡ 128 → t .queries ≡ s .queries → slotAt (t .slots) i .id ≡ id → Laid t
       → K.confirmStep id n (p .class c) ≡ K.told id back queue (cellsOf base c) (cellsOf wrk′ c)
       → queueOf t c ≡ queue → Same (plain t base wrk′) (S.inClass p c (some id) (K.told id back queue (cellsOf base c) (cellsOf wrk′ c)) .site)
       → Goes t wrk′ back
-  goes t wrk′ back queue n′ m kept-id h step is same = record {
-    sound = snd;
+  goes t wrk′ back queue n′ m qs kept-id h step is same = record {
+    sound = stays-sound;
     same-id = kept-id;
     answers = λ W e. record {
       cells = (r .0, n′);
-      sound = snd;
+      sound = stays-sound;
       site = rw o same;
       answer = rw o (ap (λ (z : ℕ). K.waiting id z back) (e ∙ rw (kept-id, is)));
     };
@@ -178,14 +197,14 @@ module _ (x : State) (w : Shaped (x .site)) (r : RightCells x) (q : SoundState x
       o : S.call p k ≡ S.inClass p c (some id) (K.told id back queue (cellsOf base c) (cellsOf wrk′ c))
       o = called ∙ ap (S.inClass p c (some id)) step
 
-      snd : SoundState (record { site = t; committed = base; working = wrk′ })
-      snd = sound-kept x (record { site = t; committed = base; working = wrk′ }) k w m q h (rw o same)
+      stays-sound : SoundState (record { site = t; committed = base; working = wrk′ })
+      stays-sound = sound-kept x (record { site = t; committed = base; working = wrk′ }) k w m (ap length qs ∙ w .queries) q h (rw o same)
 
   -- THE HEAD STAYS: it is the request itself, not executed, or it is confirmed
   module _ (t : Store) (d : Forward s c i n from to t) where
     moves : K.confirmStep id n (p .class c) ≡ K.told id 0 (K.moved id n (queueOf s c)) (cellsOf base c) (cellsOf wrk c) → Goes t wrk 0
     moves step =
-        goes t wrk 0 (K.moved id n (queueOf s c)) (r .1) (ap length (d .slots) ∙ length-set (s .slots) i _ ∙ w .slots)
+        goes t wrk 0 (K.moved id n (queueOf s c)) (r .1) (ap length (d .slots) ∙ length-set (s .slots) i _ ∙ w .slots) (d .queries)
         (kept s t w (q .laid) c i n from to class-small refl holds (f .place) forward (f .next) d i .0 ∙ f .is)
         (forward-laid s t w (q .laid) c i n from to class-small refl holds (f .place) forward (f .next) d) step
         (forward-queue s t w (q .laid) c i n from to class-small refl holds (f .place) forward (f .next) d (q .ids-differ) (parts .0) (parts .1) ∙ ap (λ (z : ℕ). K.moved z n (queueOf s c)) (f .is))
@@ -194,21 +213,33 @@ module _ (x : State) (w : Shaped (x .site)) (r : RightCells x) (q : SoundState x
 
     pub itself : hd ≡ i → v .done < v .count → Goes t wrk 0
     unfolding K.confirmStep plain plainClass
-    itself e l = moves (ap (λ (z : List Q.Entry). K.confirmOn id n z (cellsOf base c) (cellsOf wrk c)) own-head
+    itself e l = moves (ap (λ (z : List Q.Item). K.confirmOn id n z (cellsOf base c) (cellsOf wrk c)) own-head
         ∙ rw (eq-eqb (v .id) id (f .is), ops-count v (w .ops i (f .small)) holds, lt-leb (v .count) (v .done) l)
-        (ap (λ (z : List Q.Entry). K.told id 0 (K.moved id n z) (cellsOf base c) (cellsOf wrk c)) (sym own-head)))
+        (ap (λ (z : List Q.Item). K.told id 0 (K.moved id n z) (cellsOf base c) (cellsOf wrk c)) (sym own-head)))
       where
-        own-head : queueOf s c ≡ entryOf i v ∷ entries (s .slots) ps
-        own-head = head-queue ∙ ap (λ (j : ℕ). entryOf j (slotAt (s .slots) j) ∷ entries (s .slots) ps) e
+        own-head : queueOf s c ≡ Q.booking (entryOf i v) ∷ items (s .slots) (s .queries) ps
+        own-head = head-queue ∙ ap (λ (j : ℕ). itemAt (s .slots) (s .queries) j ∷ items (s .slots) (s .queries) ps) e
+            ∙ ap (λ (z : Q.Item). z ∷ items (s .slots) (s .queries) ps) (slot-item (s .slots) (s .queries) i (f .small))
 
-    pub behind-confirmed : (hd ≡ i → ⊥) → 0 < u .number → Goes t wrk 0
+    pub behind-confirmed : (hd ≡ i → ⊥) → (128 ≤ hd) ⊎ (0 < u .number) → Goes t wrk 0
     unfolding K.confirmStep plain plainClass
-    behind-confirmed ne l = moves (ap (λ (z : List Q.Entry). K.confirmOn id n z (cellsOf base c) (cellsOf wrk c)) head-queue
-        ∙ rw (other-id ne, lt-ltb 0 (u .number) l)
-        (ap (λ (z : List Q.Entry). K.told id 0 (K.moved id n z) (cellsOf base c) (cellsOf wrk c)) (sym head-queue)))
+    behind-confirmed ne l = moves (ap (λ (z : List Q.Item). K.confirmOn id n z (cellsOf base c) (cellsOf wrk c)) head-queue
+        ∙ rw (other-id ne, no-back l, stays-head l)
+        (ap (λ (z : List Q.Item). K.told id 0 (K.moved id n z) (cellsOf base c) (cellsOf wrk c)) (sym head-queue)))
+      where
+        sure : (128 ≤ hd) ⊎ (0 < u .number) → Q.isConfirmed hi ≡ true
+        sure (inl z) = rw (le-ltb hd 128 z)
+        sure (inr z) = by-test (ltb hd 128) (λ t. rw t (lt-ltb 0 (u .number) z)) (λ f. rw f)
+
+        no-back : (128 ≤ hd) ⊎ (0 < u .number) → K.backId hi ≡ 0
+        no-back (inl z) = rw (le-ltb hd 128 z)
+        no-back (inr z) = by-test (ltb hd 128) (λ t. rw (t, lt-ltb 0 (u .number) z)) (λ f. rw f)
+
+        stays-head : (128 ≤ hd) ⊎ (0 < u .number) → Q.isConfirmed hi ≡ true
+        stays-head l = sure l
 
   -- ANOTHER HEAD IS PUT BACK
-  module _ (ne : hd ≡ i → ⊥) (waiting : u .number ≡ 0) (a : Store) (wrk′ : List ℕ) (b : PutBack s base wrk c a wrk′) where
+  module _ (ne : hd ≡ i → ⊥) (hd-small : hd < 128) (waiting : u .number ≡ 0) (a : Store) (wrk′ : List ℕ) (b : PutBack s base wrk c a wrk′) where
     abbrev a₁ : Store
     a₁ = withSlot (x .site) (headSlot (x .site) (slotAt (x .site .slots) i .class)) (asPutBack (slotAt (x .site .slots) (headSlot (x .site) (slotAt (x .site .slots) i .class))))
 
@@ -219,43 +250,49 @@ module _ (x : State) (w : Shaped (x .site)) (r : RightCells x) (q : SoundState x
     shaped₁ = kept-shaped s w hd (asPutBack u) hd-small (w .ops hd hd-small) refl
 
     laid₁ : Laid a₁
-    laid₁ = kept-laid s w (q .laid) hd hd-small (asPutBack u) refl refl (holds-kept u (asPutBack u) refl refl refl hd-holds)
+    laid₁ = kept-laid s w (q .laid) hd hd-small (asPutBack u) refl refl (holds-kept u (asPutBack u) refl refl refl (hd-holds hd-small))
 
     -- the request's own slot is as it was
     same-slot : slotAt (a₁ .slots) i ≡ v
     same-slot = elsewhere (s .slots) hd (asPutBack u) inside i (λ e. ne (sym e))
 
     of-class : u .class ≡ c
-    of-class = stands-class c u (times hd ps) (sym (q .laid .exactly-once c hd class-small) ∙ ap (times hd) head-places ∙ rw (eq-eqb hd hd refl))
+    of-class = stands-class c u (times hd ps) (sym (slot-stands s c hd hd-small) ∙ sym (q .laid .exactly-once c hd class-small) ∙ ap (times hd) head-places ∙ rw (eq-eqb hd hd refl))
 
     once : times hd (places s c) ≡ 1
-    once = subst (λ (e : ℕ). times hd (places s e) ≡ 1) of-class (there s w (q .laid) base wrk hd hd-holds)
+    once = subst (λ (e : ℕ). times hd (places s e) ≡ 1) of-class (there s w (q .laid) base wrk hd hd-small (hd-holds hd-small))
 
     gone : times hd ps ≡ 0
     gone = let e = ap (times hd) (sym head-places) ∙ once in let z : suc (times hd ps) ≡ 1 = rw (eq-eqb hd hd refl) at e in omega arith
 
-    back-is : queueOf a₁ c ≡ K.putBack (entryOf hd u) ∷ entries (s .slots) ps
-    back-is = ap (entries (a₁ .slots)) head-places ∙ back-queue (s .slots) hd ps inside gone
+    back-is : queueOf a₁ c ≡ K.putBack (Q.booking (entryOf hd u)) ∷ items (s .slots) (s .queries) ps
+    back-is = ap (items (a₁ .slots) (s .queries)) head-places ∙ back-queue (s .slots) (s .queries) hd ps inside hd-small gone
 
     -- the other classes' queues
     others₁ : (e : ℕ) → e < 16 → (e ≡ c → ⊥) → queueOf a₁ e ≡ queueOf s e
     others₁ e m n′ =
-        entries-kept (s .slots) hd (asPutBack u) inside (places s e)
-        (q .laid .exactly-once e hd m ∙ rw (of-class, ne-eqb c e (λ z. n′ (sym z)), and-false (isUsed u)))
+        items-kept (s .slots) hd (asPutBack u) inside (s .queries) (places s e)
+        (q .laid .exactly-once e hd m ∙ slot-stands s e hd hd-small ∙ rw (of-class, ne-eqb c e (λ z. n′ (sym z)), and-false (isUsed u)))
+
+    slot-head : queueOf s c ≡ Q.booking (entryOf hd u) ∷ items (s .slots) (s .queries) ps
+    slot-head = head-queue ∙ ap (λ (z : Q.Item). z ∷ items (s .slots) (s .queries) ps) (slot-item (s .slots) (s .queries) hd hd-small)
 
     -- behind a waiting head all wait
     all-wait : All Waiting (queueOf a₁ c)
     all-wait = rw back-is (
       waiting,
-      waits-all 0 (s .confirmations) (entryOf hd u) (entries (s .slots) ps)
-          (subst (λ (z : List Q.Entry). InOrder 0 (s .confirmations) z) head-queue (q .confirmed-before-waiting c class-small)) (le-ltb 0 (u .number) (omega arith)),
+      waits-all 0 (s .confirmations) (Q.booking (entryOf hd u)) (items (s .slots) (s .queries) ps)
+          (subst (λ (z : List Q.Item). InOrder 0 (s .confirmations) z) slot-head (q .confirmed-before-waiting c class-small)) (le-ltb 0 (u .number) (omega arith)),
     )
 
     at-front : to ≡ 0
     at-front = by-test (ltb 0 to)
-        (λ t. let z : 128 * c + 0 ≡ 128 * c = omega arith in
-        absurd (omega (arith, f .first .before 0 (ltb-true 0 to t), ap (λ (j : ℕ). slotAt (s .slots) (getD (s .queue) j 0) .number) z, waiting)))
+        (λ t. let z : 136 * c + 0 ≡ 136 * c = omega arith in absurd (not-so (rw z at (f .first .before 0 (ltb-true 0 to t)))))
         (λ g. omega (arith, ltb-false 0 to g))
+      where
+        not-so : (128 ≤ hd) ⊎ (0 < u .number) → ⊥
+        not-so (inl z) = omega (arith, hd-small)
+        not-so (inr z) = omega (arith, waiting)
 
     parts₁ : All Confirmed (take to (queueOf a₁ c)) × All Waiting (drop to (queueOf a₁ c))
     parts₁ = rw at-front (tt, all-wait)
@@ -266,12 +303,15 @@ module _ (x : State) (w : Shaped (x .site)) (r : RightCells x) (q : SoundState x
     ids₁ : Apart 128 (λ j. slotAt (a₁ .slots) j .id)
     ids₁ g h l m e = id-same g ∙ q .ids-differ g h l m (sym (id-same g) ∙ e ∙ id-same h)
 
+    other-slot : eqb (u .id) id ≡ false
+    other-slot = sym (ap (Q.idIs id) (slot-item (s .slots) (s .queries) hd hd-small)) ∙ other-id ne
+
     step₁ : K.confirmStep id n (p .class c) ≡ K.told id (u .id) (K.moved id n (queueOf a₁ c)) (cellsOf base c) (cellsOf wrk′ c)
     unfolding K.confirmStep plain plainClass
     step₁ =
-        ap (λ (z : List Q.Entry). K.confirmOn id n z (cellsOf base c) (cellsOf wrk c)) head-queue
-        ∙ rw (other-id ne, le-ltb 0 (u .number) (omega arith))
-        (ap (λ (z : List Q.Entry). K.told id (u .id) (K.moved id n z) (cellsOf base c) (cellsOf base c)) (sym back-is)
+        ap (λ (z : List Q.Item). K.confirmOn id n z (cellsOf base c) (cellsOf wrk c)) slot-head
+        ∙ rw (other-slot, le-ltb 0 (u .number) (omega arith))
+        (ap (λ (z : List Q.Item). K.told id (u .id) (K.moved id n z) (cellsOf base c) (cellsOf base c)) (sym back-is)
         ∙ ap (λ (z : List ℕ). K.told id (u .id) (K.moved id n (queueOf a₁ c)) (cellsOf base c) z) (sym (b .own)))
 
     module _ (t : Store) (d : Forward a₁ c i n from to t) where
@@ -298,12 +338,12 @@ module _ (x : State) (w : Shaped (x .site)) (r : RightCells x) (q : SoundState x
       between : Same (S.inClass (plain a₁ base wrk′) c (some id) told₁ .site) (S.inClass p c (some id) told₁ .site)
       unfolding plain plainClass told₁
       between = same-in (plain a₁ base wrk′) p c (some id) told₁ told₁
-          (λ e m n′. λ j. record { queue = others₁ e m n′ j; committed = cellsOf base e; working = b .others e n′ j }) refl refl (λ j r. refl) refl refl
+          (λ e m n′. λ j. record { queue = others₁ e m n′ j; committed = cellsOf base e; working = b .others e n′ j }) refl refl refl (λ j r. refl) refl refl
 
       goes₁ : Goes t wrk′ (u .id)
       unfolding told₁
       goes₁ = goes t wrk′ (u .id) (K.moved id n (queueOf a₁ c)) (b .cells)
-          (ap length (d .slots) ∙ length-set (a₁ .slots) i _ ∙ shaped₁ .slots)
+          (ap length (d .slots) ∙ length-set (a₁ .slots) i _ ∙ shaped₁ .slots) (d .queries)
           (kept a₁ t shaped₁ laid₁ c i n from to class-small own₁ holds₁ place₁ forward (f .next) d i .0 ∙ is₁)
           (forward-laid a₁ t shaped₁ laid₁ c i n from to class-small own₁ holds₁ place₁ forward (f .next) d) step₁
           (forward-queue a₁ t shaped₁ laid₁ c i n from to class-small own₁ holds₁ place₁ forward (f .next) d ids₁ (parts₁ .0) (parts₁ .1)

@@ -18,14 +18,15 @@ use Rattle.slots.specs.declared.Slot.{Slot}
 use Rattle.slots.specs.Meaning.{entryOf, isUsed, slotAt}
 use Rattle.slots.specs.Rules.{Holds}
 use Rattle.store.specs.Store.{Store, Shaped}
-use Rattle.store.specs.Meaning.{lenOf, places, entries, queueOf, cellsOf, keptAt, plain, plainClass, Same}
-use Rattle.store.specs.Sound.{times, stands, Laid}
+use Rattle.store.specs.Meaning.{lenOf, places, items, queueOf, cellsOf, keptAt, plain, plainClass, Same}
+use Rattle.store.specs.Sound.{times, Laid}
 use Rattle.store.specs.Calls.{State, RightCells, SoundState, Did, plainOf}
 use Rattle.store.specs.Steps.{withSlot, headSlot, withNumber, numberedStore, Backable, Commitable, CommitDone}
 use Rattle.store.proofs.KeptIds.{kept-after, unused-after}
-use Rattle.store.proofs.Relaid.{entries-kept}
+use Rattle.store.proofs.Relaid.{items-kept}
+use Rattle.store.proofs.Canonical.{slot-item, slot-stands}
 use Rattle.store.proofs.Confirm.{holds-kept}
-use Rattle.store.proofs.Commit.{head-is, head-small}
+use Rattle.store.proofs.Commit.{head-is}
 use Rattle.store.proofs.Promise.{sound-kept, same-trans}
 use Rattle.store.proofs.Offered.{not-done, accepted-call}
 use Rattle.store.proofs.Asked.{id-absent, there}
@@ -45,14 +46,15 @@ module _ (x : State) (w : Shaped (x .site)) (r : RightCells x) (q : SoundState x
   abbrev k : S.Call
   k = S.confirm id n
 
-  -- NO COUNT WRAPS: none is above the count of confirmations, which is below 4,294,967,295 where one is taken, so 64 bits hold one more
-  pub may-be-put-back : s .confirmations < 4294967295 → (c : ℕ) → c < 16 → 0 < lenOf s c → Backable s (x .committed) (x .working) c
-  may-be-put-back more c l has = record {
+  -- NO COUNT WRAPS: none is above the count of confirmations and queries, which both have 32 bits, so 64 bits hold one more
+  pub may-be-put-back : s .confirmations < 4294967296 → s .begun < 4294967296 → (c : ℕ) → c < 16 → 0 < lenOf s c → headSlot s c < 128 → Backable s (x .committed) (x .working) c
+  may-be-put-back more less c l has request = record {
     laid = q .laid;
     class = l;
     some = has;
     cells = r;
-    fits = omega (arith, q .backs-bounded (headSlot s c) (head-small s w (q .laid) c l has));
+    request = request;
+    fits = omega (arith, q .backs-bounded (headSlot s c) request);
   }
 
   pub all-taken : 4294967295 ≤ s .confirmations → Did x k x (K.refused 6)
@@ -85,7 +87,7 @@ module _ (x : State) (w : Shaped (x .site)) (r : RightCells x) (q : SoundState x
         pub class-here : (S.classOf p id ≡ c) × (c < 16)
         class-here = found x w r q id i m e pos
 
-        entry-here : Q.entryOf id (queueOf s c) ≡ some (entryOf i v)
+        entry-here : Q.entryOf id (queueOf s c) ≡ some (Q.booking (entryOf i v))
         entry-here = entry x w r q id i m e pos
 
         pub confirmed-already : 0 < v .number → Did x k x (K.refused 9)
@@ -94,7 +96,7 @@ module _ (x : State) (w : Shaped (x .site)) (r : RightCells x) (q : SoundState x
             (rw (lt-leb 4294967295 (s .confirmations) more, eq-eqb n (s .confirmations + 1) next, class-here .0, lt-ltb c 16 (class-here .1), entry-here, lt-ltb 0 (v .number) h))
 
         module _ (waits : v .number ≡ 0) where
-          accepted : S.refusal p k ≡ 0
+          pub accepted : S.refusal p k ≡ 0
           unfolding S.refusal plain plainClass
           accepted = rw (lt-leb 4294967295 (s .confirmations) more, eq-eqb n (s .confirmations + 1) next, class-here .0, lt-ltb c 16 (class-here .1), entry-here, le-ltb 0 (v .number) (omega arith))
 
@@ -107,14 +109,14 @@ module _ (x : State) (w : Shaped (x .site)) (r : RightCells x) (q : SoundState x
           s₁ = numberedStore (x .site) i n
 
           pub held : Holds v
-          held = used-holds s (w .slots) (q .laid) i (rw (ne-eqb (v .id) 0 (omega arith)))
+          held = used-holds s (w .slots) (w .queries) (q .laid) i (rw (ne-eqb (v .id) 0 (omega arith)))
 
           inside : i < length (s .slots)
           inside = omega (arith, w .slots)
 
           -- it stands in its class's queue, which so has a head
           pub stands-once : times i (places s c) ≡ 1
-          stands-once = there s w (q .laid) (x .committed) (x .working) i held
+          stands-once = there s w (q .laid) (x .committed) (x .working) i m held
 
           pub queue-some : 0 < lenOf s c
           queue-some = by-test (ltb 0 (lenOf s c)) (ltb-true 0 (lenOf s c))
@@ -130,18 +132,19 @@ module _ (x : State) (w : Shaped (x .site)) (r : RightCells x) (q : SoundState x
           numbered-laid : Laid s₁
           numbered-laid = record {
             free-or-valid = kept .free-or-valid;
-            not-longer-than-128 = kept .not-longer-than-128;
+            not-longer-than-136 = kept .not-longer-than-136;
             exactly-once = kept .exactly-once;
             past-the-end-zero = kept .past-the-end-zero;
             map-agrees = kept .map-agrees;
             unused-zero = unused-after s s₁ n (v .id) (w .kept) next refl refl (q .laid .unused-zero);
+            free-queries-zero = kept .free-queries-zero;
           }
 
           -- the other classes' queues
-          elsewhere : (d : ℕ) → d < 16 → (d ≡ c → ⊥) → entries (s₁ .slots) (places s d) ≡ entries (s .slots) (places s d)
+          elsewhere : (d : ℕ) → d < 16 → (d ≡ c → ⊥) → items (s₁ .slots) (s .queries) (places s d) ≡ items (s .slots) (s .queries) (places s d)
           elsewhere d l ne =
-              entries-kept (s .slots) i (withNumber n v) inside (places s d)
-              (q .laid .exactly-once d i l ∙ rw (ne-eqb c d (λ e. ne (sym e)), and-false (isUsed v)))
+              items-kept (s .slots) i (withNumber n v) inside (s .queries) (places s d)
+              (q .laid .exactly-once d i l ∙ slot-stands s d i m ∙ rw (ne-eqb c d (λ e. ne (sym e)), and-false (isUsed v)))
 
           module _ (first : headSlot s c ≡ i) where
             abbrev ps : List ℕ
@@ -150,43 +153,43 @@ module _ (x : State) (w : Shaped (x .site)) (r : RightCells x) (q : SoundState x
             head-places : places s c ≡ i ∷ ps
             head-places = head-is s w (q .laid) c (class-here .1) queue-some ∙ ap (λ (j : ℕ). j ∷ ps) first
 
-            head-queue : queueOf s c ≡ entryOf i v ∷ entries (s .slots) ps
-            head-queue = ap (entries (s .slots)) head-places
+            head-queue : queueOf s c ≡ Q.booking (entryOf i v) ∷ items (s .slots) (s .queries) ps
+            head-queue = ap (items (s .slots) (s .queries)) head-places ∙ ap (λ (z : Q.Item). z ∷ items (s .slots) (s .queries) ps) (slot-item (s .slots) (s .queries) i m)
 
             gone : times i ps ≡ 0
             gone =
                 let one = ap (times i) (sym head-places) ∙ stands-once in
                 let e : suc (times i ps) ≡ 1 = rw (eq-eqb i i refl) at one in omega arith
 
-            rest-kept : entries (s₁ .slots) ps ≡ entries (s .slots) ps
-            rest-kept = entries-kept (s .slots) i (withNumber n v) inside ps gone
+            rest-kept : items (s₁ .slots) (s .queries) ps ≡ items (s .slots) (s .queries) ps
+            rest-kept = items-kept (s .slots) i (withNumber n v) inside (s .queries) ps gone
 
             pub may-commit : Commitable s₁ (x .committed) (x .working) c
-            may-commit = record { laid = numbered-laid; class = class-here .1; some = queue-some; cells = r; count = omega (arith, q .counts-agree) }
+            may-commit = record { laid = numbered-laid; class = class-here .1; some = queue-some; cells = r; count = omega (arith, q .counts-agree); request = rw first m }
 
             abbrev done : K.Did
-            done = K.commit (K.numbered n (entryOf i v)) (entries (s .slots) ps) (cellsOf (x .working) c)
+            done = K.commit (Q.booking (K.withNumber n (entryOf i v))) (items (s .slots) (s .queries) ps) (cellsOf (x .working) c)
 
             step-commits : v .done ≡ v .count → K.confirmStep id n (p .class c) ≡ done
             unfolding K.confirmStep plain plainClass
             step-commits h =
-                ap (λ (l : List Q.Entry). K.confirmOn id n l (cellsOf (x .committed) c) (cellsOf (x .working) c)) head-queue
+                ap (λ (l : List Q.Item). K.confirmOn id n l (cellsOf (x .committed) c) (cellsOf (x .working) c)) head-queue
                 ∙ rw (eq-eqb (v .id) id e, ops-count v (w .ops i m) held, le-leb (v .count) (v .done) (omega arith))
 
             pub committed-now : v .done ≡ v .count → (t : Store) (base′ : List ℕ) → CommitDone s₁ (x .committed) (x .working) c t base′
                 → Did x k (record { site = t; committed = base′; working = x .working }) (K.committed (v .id) n (v .mark) i (v .backs))
             committed-now h t base′ d =
                 let o : S.call p k ≡ S.inClass p c (some id) done = outcome ∙ ap (S.inClass p c (some id)) (step-commits h) in
-                let z : Same (plain t base′ (x .working)) (S.call p k .site) = rw o (same-trans (d .site (K.numbered n (entryOf i v))) between) in
+                let z : Same (plain t base′ (x .working)) (S.call p k .site) = rw o (same-trans (d .site (K.withNumber n (entryOf i v))) between) in
                 record {
                   cells = (d .cells, r .1);
                   sound = sound-kept x (record { site = t; committed = base′; working = x .working }) k w
-                      (d .slots ∙ length-set (s .slots) i (withNumber n v) ∙ w .slots) q (d .laid) z;
+                      (d .slots ∙ length-set (s .slots) i (withNumber n v) ∙ w .slots) (ap length (d .queries) ∙ w .queries) q (d .laid) z;
                   site = z;
                   answer = rw o;
                 }
               where
-                between : Same (S.inClass (plain s₁ (x .committed) (x .working)) c none (K.commit (K.numbered n (entryOf i v)) (entries (s₁ .slots) ps) (cellsOf (x .working) c)) .site)
+                between : Same (S.inClass (plain s₁ (x .committed) (x .working)) c none (K.commit (Q.booking (K.withNumber n (entryOf i v))) (items (s₁ .slots) (s .queries) ps) (cellsOf (x .working) c)) .site)
                     (S.inClass p c (some id) done .site)
                 between = unfold plain plainClass in (record {
                   class = λ d l. by-test (eqb d c)
@@ -194,5 +197,6 @@ module _ (x : State) (w : Shaped (x .site)) (r : RightCells x) (q : SoundState x
                       (λ f. rw f (λ j. record { queue = elsewhere d l (eqb-false d c f) j; committed = cellsOf (x .committed) d; working = cellsOf (x .working) d }));
                   confirmations = omega arith;
                   commits = refl;
+                  queries = refl;
                   kept = λ j u. kept-after s s₁ n (v .id) (w .kept) next refl refl j (as-before (s₁ .confirmations) j u) ∙ ap (λ (z : ℕ). S.keptWith (some z) (suc (s .confirmations)) (keptAt s) j) e;
                 })

@@ -1,31 +1,35 @@
 -- Soundness is decided, for any site of the declared shape: for the theorem that any two outcomes are equal. Assumes nothing.
-use Prim.Native.Nat.{ℕ, zero, suc, _+_, _*_, _-_, _<_, _≤_, _^_}
+use Prim.Native.Nat.{ℕ, zero, suc, _+_, _-_, _<_, _≤_, _^_}
 use native.Mathlib.Omega.{arith}
 use mathlib.Core.Path.{_≡_, refl, sym, ap, _∙_}
 use mathlib.Core.Logic.{_⊎_, inl, inr, _↔_}
-use mathlib.Core.Bool.{Bool, true, false, not}
+use mathlib.Core.Bool.{Bool, true, false}
 use mathlib.Core.List.{List, [], _∷_, map}
 use lib.Dec.{eqb, ltb, leb}
-use lib.ListN.{length, getD, List·getD-eq-default}
-use borrow.Author.Tests.{eqb-true, eqb-false, ltb-true, ltb-false, leb-true, leb-false}
+use lib.ListN.{length, getD, drop, replicate, List·getD-eq-default}
+use borrow.Author.Tests.{eqb-true, eqb-false, ne-eqb, le-ltb, ltb-true, ltb-false, leb-true, leb-false}
 use Rattle.cells.specs.Ops.{OpOk, noOp}
 use Rattle.cells.specs.declared.Op.{Op}
 use Rattle.plain.proofs.Tests.{by-test, no}
 use Rattle.plain.specs.Ops.{markOf, leaves}
-use Rattle.plain.specs.Queue.{Entry, opsOf}
-use Rattle.plain.specs.Site.{Recent}
-use Rattle.plain.specs.Sound.{soFar}
+use Rattle.plain.specs.Queue.{Item, booking, reading, opsOf, hasNumber, line, count}
+use Rattle.plain.specs.Site.{sum, Recent}
+use Rattle.plain.specs.Sound.{All, soFar, Waiting, Follows, InOrder, Untouched, AtHead}
+use Rattle.plain.proofs.Queues.{all-map}
 use Rattle.slots.proofs.Records.{all-zero, free-zero, held, holds}
-use Rattle.slots.specs.Meaning.{freeSlot, isUsed, noSlot, opAt, slotAt}
+use Rattle.slots.specs.Meaning.{freeSlot, isUsed, opAt, slotAt}
 use Rattle.slots.specs.Rules.{Holds, OpAt, OpsOk, OpsZero}
-use Rattle.slots.specs.Steps.{Follows}
 use Rattle.slots.specs.declared.Slot.{Slot}
-use Rattle.store.proofs.Flat.{in-range, not-there}
-use Rattle.store.proofs.Whole.{differ-in, kept-in, laid-of, places-in, sound-of, tails-in, tally-in}
-use Rattle.store.specs.Checks.{Filled, InRange, KeptOk, Matching, MatchesAll, Named, PlaceOk, ZeroFrom, donesOf, idsOf, marksOf, nth, numbered, numbersOf}
-use Rattle.store.specs.Meaning.{cellsOf, lenOf, places, queueOf, under}
-use Rattle.store.specs.Sound.{Apart, Cells, Once, Short, Sound, stands, times}
-use Rattle.store.specs.Store.{Shaped, Store}
+use Rattle.places.specs.Moves.{part}
+use Rattle.store.proofs.Masks.{none-named}
+use Rattle.store.proofs.Once.{stays-of}
+use Rattle.store.proofs.Standing.{stays-small}
+use Rattle.store.specs.Checks.{Stays}
+use Rattle.store.specs.Meaning.{cellsOf, keptAt, lenOf, places, queueOf}
+use Rattle.store.specs.Sound.{Apart, Cells, Laid, Once, Rest, Sound, standsAt, times}
+use Rattle.queries.specs.declared.Query.{Query}
+use Rattle.queries.specs.Table.{freeQuery}
+use Rattle.store.specs.Store.{Shaped, Store, queryAt}
 use Rattle.usedmap.specs.Flags.{usedOf}
 
 abbrev pub Decided : Type 0 → Type 0
@@ -123,10 +127,10 @@ slot v n i =
     (λ h. let g = held v n h in (g .ops, (g .id, (g .class, (g .count, h .count)))))
     (and-then (ops v) (λ _. and-then (lt 0 (v .id)) (λ _. and-then (lt (v .class) 16) (λ _. and-then (lt 0 (v .count)) (λ _. le (v .count) 7))))))
 
-follows : (before number done mark : ℕ) → Decided (Follows before number done mark)
-follows before number done mark =
-    same (λ h. record { order = h .0; untouched = h .1 }) (λ h. (h .order, h .untouched))
-    (and-then (or-else (eq number 0) (and-then (lt 0 before) (λ _. lt before number))) (λ _. and-then (eq done 0) (λ _. eq mark 0)))
+-- every one of a list
+all : {A : Type 0} (P : A → Type 0) → ((x : A) → Decided (P x)) → (l : List A) → Decided (All P l)
+all P d [] = inl tt
+all P d (x ∷ l) = and-then (d x) (λ _. all P d l)
 
 -- numbers in n places
 apart : (n : ℕ) (f : ℕ → ℕ) → Decided (Apart n f)
@@ -140,76 +144,105 @@ recent top P d =
     same (λ h n r. h n (omega (arith, r .within)) (r .given) (r .last)) (λ h n l a b. h n (record { given = a; within = omega arith; last = b }))
     (below (λ n. 0 < n → top < n + 256 → P n) (suc top) (λ n _. when (lt 0 n) (λ _. when (lt top (n + 256)) (λ _. d n))))
 
--- the kept ids
-filled : (top : ℕ) (kept : List ℕ) → Decided (Filled top kept)
-filled top kept =
-    same (λ h. record { not-zero = h .0; unused = λ n l k. h .1 n (omega arith) l }) (λ h. (h .not-zero, (λ n k l. h .unused n l (omega arith))))
-    (and-then (recent top (λ n. 0 < under kept n) (λ n. lt 0 (under kept n)))
-    (λ _. below (λ n. top < n → under kept n ≡ 0) 257 (λ n _. when (lt top n) (λ _. eq (under kept n) 0))))
+-- a queue
+waiting : (x : Item) → Decided (Waiting x)
+waiting (booking e) = eq (e .number) 0
+waiting (reading p b) = inr (λ h. h)
 
-matching : (ids numbers : ℕ → ℕ) (top : ℕ) (kept : List ℕ) → Decided (Matching ids numbers top kept)
-matching ids numbers top kept =
-    below (λ i. not (eqb (ids i) 0) ≡ true → MatchesAll top kept (numbers i) (ids i)) 128
-    (λ i _. when (eq-flag (not (eqb (ids i) 0)) true) (λ _. one (numbers i) (ids i)))
-  where
-    one : (number id : ℕ) → Decided (MatchesAll top kept number id)
-    one number id = recent top (λ n. (number ≡ n) ↔ (id ≡ under kept n))
-        (λ n. and-then (when (eq number n) (λ _. eq id (under kept n))) (λ _. when (eq id (under kept n)) (λ _. eq number n)))
+follows : (m : ℕ) (x : Item) → Decided (Follows m x)
+follows m (booking e) = lt m (e .number)
+follows m (reading p b) = le m b
 
-kept-ids : (ids numbers : ℕ → ℕ) (top : ℕ) (kept : List ℕ) → Decided (KeptOk ids numbers top kept)
-kept-ids ids numbers top kept =
-    same (λ h. record { filled = h .0; apart = h .1 .0; matching = h .1 .1 }) (λ h. (h .filled, (h .apart, h .matching)))
-    (and-then (filled top kept) (λ _. and-then (apart 256 (λ p. getD kept p 0)) (λ _. matching ids numbers top kept)))
+untouched : (x : Item) → Decided (Untouched x)
+untouched (booking e) = and-then (eq (e .done) 0) (λ _. eq (e .mark) 0)
+untouched (reading p b) = inl tt
+
+three : {P Q R : Type 0} → Decided P → Decided Q → Decided R → Decided (P × Q × R)
+three p q r = same (λ h. (h .0, h .1 .0, h .1 .1)) (λ h. (h .0, (h .1, h .2))) (and-then p (λ _. and-then q (λ _. r)))
+
+order : (m top : ℕ) (q : List Item) → Decided (InOrder m top q)
+order m top [] = inl tt
+order m top (x ∷ q) = or-else (three (follows m x) (le (line x) top) (order (line x) top q)) (and-then (waiting x) (λ _. all Waiting waiting q))
+
+rest : (q : List Item) → Decided (Rest q)
+rest [] = inl tt
+rest (x ∷ q) = all Untouched untouched q
 
 -- a class's cells
-cells : (q : List Entry) (base w : List ℕ) → Decided (Cells q base w)
-cells [] base w = eq-list eq w base
-cells (e ∷ q) base w =
+at-head : (x : Item) (base w : List ℕ) → Decided (AtHead x base w)
+at-head (reading p b) base w = eq-list eq w base
+at-head (booking e) base w =
     same
     (λ h. record { within = h .0; unfinished = h .1 .0; mark = h .1 .1 .0; cells = h .1 .1 .1 })
     (λ h. (h .within, (h .unfinished, (h .mark, h .cells))))
     (and-then (le (e .done) (length (opsOf e))) (λ _. and-then (when (lt 0 (e .number)) (λ _. lt (e .done) (length (opsOf e)))) (λ _.
     and-then (eq (e .mark) (markOf (soFar e base))) (λ _. eq-list eq w (leaves (soFar e base) base)))))
 
+cells : (q : List Item) (base w : List ℕ) → Decided (Cells q base w)
+cells [] base w = eq-list eq w base
+cells (x ∷ q) base w = at-head x base w
+
 module _ (s : Store) (w : Shaped s) where
-  -- a slot past the end stands nowhere: where all places name slots, 128 of them are enough to look at
-  once : Short (s .lens) → InRange (s .queue) (s .lens) → Decided (Once s)
-  once short range =
+  -- past 136 nothing may stand
+  past : (c b : ℕ) → 136 ≤ b → standsAt s c b ≡ 0
+  past c b k =
+      let z : queryAt (s .queries) (b - 128) .classes ≡ 0 = ap (λ (q : Query). q .classes) (List·getD-eq-default (s .queries) freeQuery (omega (arith, w .queries))) in
+      rw (le-ltb b 128 (omega arith), z, none-named c)
+
+  not-in : (b : ℕ) (ps : List ℕ) → 136 ≤ b → All (λ x. x < 136) ps → times b ps ≡ 0
+  not-in b [] k h = refl
+  not-in b (x ∷ ps) k h = rw (ne-eqb x b (λ e. omega (arith, h .0))) (not-in b ps k (h .1))
+
+  once : Decided (Once s)
+  once =
       same
-      (λ h c i l. by-test (ltb i 128) (λ t. h c l i (ltb-true i 128 t)) (λ f. nowhere c i l (ltb-false i 128 f)))
-      (λ h c l i _. h c i l)
-      (below (λ c. (i : ℕ) → i < 128 → times i (places s c) ≡ stands c (slotAt (s .slots) i)) 16
-      (λ c _. below (λ i. times i (places s c) ≡ stands c (slotAt (s .slots) i)) 128 (λ i _. eq (times i (places s c)) (stands c (slotAt (s .slots) i)))))
-    where
-      nowhere : (c i : ℕ) → c < 16 → 128 ≤ i → times i (places s c) ≡ stands c (slotAt (s .slots) i)
-      nowhere c i l k =
-          not-there s w short c l range i k ∙ sym (ap (stands c) (List·getD-eq-default (s .slots) noSlot (omega (arith, w .slots))))
+      (λ h c b l. by-test (ltb b 136) (λ t. h .1 c l b (ltb-true b 136 t)) (λ f. not-in b (places s c) (ltb-false b 136 f) (h .0 c l) ∙ sym (past c b (ltb-false b 136 f))))
+      (λ o. ((λ c l. all-map (Stays s c) (λ b. b < 136) (λ b h. stays-small s (w .slots) (w .queries) c b h) (places s c) (stays-of s o c l)), (λ c l b _. o c b l)))
+      (and-then (below (λ c. All (λ b. b < 136) (places s c)) 16 (λ c _. all (λ b. b < 136) (λ b. lt b 136) (places s c)))
+      (λ _. below (λ c. (b : ℕ) → b < 136 → times b (places s c) ≡ standsAt s c b) 16
+      (λ c _. below (λ b. times b (places s c) ≡ standsAt s c b) 136 (λ b _. eq (times b (places s c)) (standsAt s c b)))))
 
-  abbrev At : (c p : ℕ) → Type 0
-  At c p = PlaceOk (numbersOf (s .slots)) (donesOf (s .slots)) (marksOf (s .slots)) (s .queue) (s .confirmations) (128 * c) p
+  free-queries : Decided ((p : ℕ) → queryAt (s .queries) p .classes ≡ 0 → queryAt (s .queries) p .begun ≡ 0)
+  free-queries =
+      same
+      (λ h p z. by-test (ltb p 8) (λ t. h p (ltb-true p 8 t) z)
+      (λ f. ap (λ (q : Query). q .begun) (List·getD-eq-default (s .queries) freeQuery (omega (arith, w .queries, ltb-false p 8 f)))))
+      (λ h p _ z. h p z)
+      (below (λ p. queryAt (s .queries) p .classes ≡ 0 → queryAt (s .queries) p .begun ≡ 0) 8
+      (λ p _. when (eq (queryAt (s .queries) p .classes) 0) (λ _. eq (queryAt (s .queries) p .begun) 0)))
 
-  place : (c p : ℕ) → Decided (At c p)
-  place c p =
-      same (λ h. record { given = h .0; follows = h .1 }) (λ h. (h .given, h .follows))
-      (and-then (le (numbersOf (s .slots) (nth (s .queue) (128 * c + p))) (s .confirmations)) (λ _. when (lt 0 p) (λ _. follows _ _ _ _)))
+  laid : Decided (Laid s)
+  laid =
+      same
+      (λ h. record { free-or-valid = h .0; not-longer-than-136 = h .1 .0; exactly-once = h .1 .1 .0; past-the-end-zero = h .1 .1 .1 .0; map-agrees = h .1 .1 .1 .1 .0; unused-zero = λ n k m. h .1 .1 .1 .1 .1 .0 n (omega arith) k; free-queries-zero = h .1 .1 .1 .1 .1 .1 })
+      (λ h. (h .free-or-valid, (h .not-longer-than-136, (h .exactly-once, (h .past-the-end-zero, (h .map-agrees, ((λ n k m. h .unused-zero n m (omega arith)), h .free-queries-zero)))))))
+      (and-then (below (λ i. (slotAt (s .slots) i ≡ freeSlot) ⊎ Holds (slotAt (s .slots) i)) 128 (λ i l. slot (slotAt (s .slots) i) (w .ops i l) (w .ids i l)))
+      (λ _. and-then (below (λ c. getD (s .lens) c 0 ≤ 136) 16 (λ c l. le (getD (s .lens) c 0) 136))
+      (λ _. and-then once
+      (λ _. and-then (below (λ c. drop (lenOf s c) (part (s .queue) c) ≡ replicate (136 - lenOf s c) 0) 16 (λ c _. eq-list eq (drop (lenOf s c) (part (s .queue) c)) (replicate (136 - lenOf s c) 0)))
+      (λ _. and-then (eq-list eq-flag (usedOf (s .low) (s .high)) (map isUsed (s .slots)))
+      (λ _. and-then (below (λ n. s .confirmations < n → keptAt s n ≡ 0) 257 (λ n _. when (lt (s .confirmations) n) (λ _. eq (keptAt s n) 0)))
+      (λ _. free-queries)))))))
 
   pub sound-decided : (base wrk : List ℕ) → Decided (Sound s base wrk)
   sound-decided base wrk =
       same
-      (λ h. sound-of s w base wrk (laid-of s w (h .0) (h .1 .0) (h .1 .1 .0) (h .1 .1 .1 .0) (h .1 .1 .1 .1 .1 .0) (h .1 .1 .1 .1 .1 .1 .1 .1 .1 .1 .1 .0 .filled .unused)) (h .1 .1 .1 .1 .1 .1 .0) (h .1 .1 .1 .1 .1 .1 .1 .0)
-      (h .1 .1 .1 .1 .1 .1 .1 .1 .0) (h .1 .1 .1 .1 .1 .1 .1 .1 .1 .0) (h .1 .1 .1 .1 .1 .1 .1 .1 .1 .1 .0) (h .1 .1 .1 .1 .1 .1 .1 .1 .1 .1 .1 .0) (h .1 .1 .1 .1 .1 .1 .1 .1 .1 .1 .1 .1))
-      (λ h. let t = tally-in s w base wrk h in
-      (h .laid .free-or-valid, (h .laid .not-longer-than-128, (tails-in s w base wrk h, (h .laid .map-agrees, (in-range s w (h .laid .not-longer-than-128) (h .laid .exactly-once), (h .laid .exactly-once, (differ-in s w base wrk h, (places-in s w base wrk h, (omega arith, (omega arith, (h .working-cells-follow, (kept-in s w base wrk h, h .backs-bounded)))))))))))))
-      (and-then (below (λ i. (slotAt (s .slots) i ≡ freeSlot) ⊎ Holds (slotAt (s .slots) i)) 128 (λ i l. slot (slotAt (s .slots) i) (w .ops i l) (w .ids i l)))
-      (λ _. and-then (below (λ c. getD (s .lens) c 0 ≤ 128) 16 (λ c l. le (getD (s .lens) c 0) 128))
-      (λ short. and-then (below (λ c. ZeroFrom (s .queue) (128 * c + lenOf s c) (128 * c + 128)) 16 (λ c _. below (λ k. 128 * c + lenOf s c ≤ k → nth (s .queue) k ≡ 0) (128 * c + 128) (λ k _. when (le (128 * c + lenOf s c) k) (λ _. eq (nth (s .queue) k) 0))))
-      (λ _. and-then (eq-list eq-flag (usedOf (s .low) (s .high)) (map isUsed (s .slots)))
-      (λ _. and-then (below (λ c. Named (s .queue) (128 * c) (lenOf s c)) 16 (λ c _. below (λ p. nth (s .queue) (128 * c + p) < 128) (lenOf s c) (λ p _. lt (nth (s .queue) (128 * c + p)) 128)))
-      (λ range. and-then (once short range)
-      (λ _. and-then (same (λ h. record { ids = h .0; numbers = h .1 }) (λ h. (h .ids, h .numbers)) (and-then (apart 128 (λ i. slotAt (s .slots) i .id)) (λ _. apart 128 (λ i. slotAt (s .slots) i .number))))
-      (λ _. and-then (below (λ c. (p : ℕ) → p < lenOf s c → At c p) 16 (λ c _. below (At c) (lenOf s c) (λ p _. place c p)))
-      (λ _. and-then (le (s .commits) (s .confirmations))
-      (λ _. and-then (eq (s .confirmations - s .commits) (numbered (numbersOf (s .slots)) 128))
-      (λ _. and-then (below (λ c. Cells (queueOf s c) (cellsOf base c) (cellsOf wrk c)) 16 (λ c l. cells (queueOf s c) (cellsOf base c) (cellsOf wrk c)))
-      (λ _. and-then (kept-ids (idsOf (s .slots)) (numbersOf (s .slots)) (s .confirmations) (s .kept))
-      (λ _. below (λ i. slotAt (s .slots) i .backs ≤ s .confirmations) 128 (λ i _. le (slotAt (s .slots) i .backs) (s .confirmations)))))))))))))))
+      (λ h. record { laid = h .0; ids-differ = h .1 .0; confirmed-before-waiting = h .1 .1 .0; numbers-differ = h .1 .1 .1 .0; counts-agree = h .1 .1 .1 .1 .0; backs-bounded = h .1 .1 .1 .1 .1 .0; only-a-head-done = h .1 .1 .1 .1 .1 .1 .0; working-cells-follow = h .1 .1 .1 .1 .1 .1 .1 .0; kept-not-zero = h .1 .1 .1 .1 .1 .1 .1 .1 .0; kept-differ = λ m n r q. h .1 .1 .1 .1 .1 .1 .1 .1 .1 .0 m r n q; kept-queued = h .1 .1 .1 .1 .1 .1 .1 .1 .1 .1 })
+      (λ h. (h .laid, (h .ids-differ, (h .confirmed-before-waiting, (h .numbers-differ, (h .counts-agree, (h .backs-bounded, (h .only-a-head-done, (h .working-cells-follow, (h .kept-not-zero, ((λ m r n q. h .kept-differ m n r q), h .kept-queued)))))))))))
+      (and-then laid
+      (λ _. and-then (apart 128 (λ i. slotAt (s .slots) i .id))
+      (λ _. and-then (below (λ c. InOrder 0 (s .confirmations) (queueOf s c)) 16 (λ c _. order 0 (s .confirmations) (queueOf s c)))
+      (λ _. and-then (apart 128 (λ i. slotAt (s .slots) i .number))
+      (λ _. and-then (eq (s .confirmations) (s .commits + sum (λ c. count hasNumber (queueOf s c)) 16))
+      (λ _. and-then (below (λ i. slotAt (s .slots) i .backs ≤ s .confirmations + s .begun) 128 (λ i _. le (slotAt (s .slots) i .backs) (s .confirmations + s .begun)))
+      (λ _. and-then (below (λ c. Rest (queueOf s c)) 16 (λ c _. rest (queueOf s c)))
+      (λ _. and-then (below (λ c. Cells (queueOf s c) (cellsOf base c) (cellsOf wrk c)) 16 (λ c _. cells (queueOf s c) (cellsOf base c) (cellsOf wrk c)))
+      (λ _. and-then (recent (s .confirmations) (λ n. 0 < keptAt s n) (λ n. lt 0 (keptAt s n)))
+      (λ _. and-then (recent (s .confirmations) (λ m. (n : ℕ) → Recent (s .confirmations) n → keptAt s m ≡ keptAt s n → m ≡ n)
+      (λ m. recent (s .confirmations) (λ n. keptAt s m ≡ keptAt s n → m ≡ n) (λ n. when (eq (keptAt s m) (keptAt s n)) (λ _. eq m n))))
+      (λ _. below (λ i. isUsed (slotAt (s .slots) i) ≡ true → (n : ℕ) → Recent (s .confirmations) n → (slotAt (s .slots) i .number ≡ n) ↔ (slotAt (s .slots) i .id ≡ keptAt s n)) 128
+      (λ i _. when (eq-flag (isUsed (slotAt (s .slots) i)) true) (λ _. matches (slotAt (s .slots) i .number) (slotAt (s .slots) i .id))))))))))))))
+    where
+      matches : (number id : ℕ) → Decided ((n : ℕ) → Recent (s .confirmations) n → (number ≡ n) ↔ (id ≡ keptAt s n))
+      matches number id = recent (s .confirmations) (λ n. (number ≡ n) ↔ (id ≡ keptAt s n))
+          (λ n. and-then (when (eq number n) (λ _. eq id (keptAt s n))) (λ _. when (eq id (keptAt s n)) (λ _. eq number n)))

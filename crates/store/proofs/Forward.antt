@@ -13,23 +13,20 @@ use Rattle.plain.specs.Queue as Q
 use Rattle.plain.specs.Steps as K
 use Rattle.plain.specs.Site as S
 use Rattle.plain.specs.Sound.{All, Waiting}
-use Rattle.plain.proofs.Tests.{no}
 use Rattle.places.specs.Moves.{movedUp}
 use Rattle.store.proofs.Lists.{map-take}
 use Rattle.slots.specs.declared.Slot.{Slot}
-use Rattle.slots.specs.Meaning.{entryOf, freeSlot, isUsed, noSlot, slotAt}
+use Rattle.slots.specs.Meaning.{freeSlot, isUsed, noSlot, slotAt}
 use Rattle.slots.specs.Rules.{Holds}
 use Rattle.store.specs.Store.{Store, Shaped}
-use Rattle.store.specs.Meaning.{lenOf, places, entries, queueOf, cellsOf, plain, Same}
+use Rattle.store.specs.Meaning.{lenOf, places, itemAt, items, queueOf, cellsOf, plain, Same}
 use Rattle.store.specs.Sound.{times, Laid, Apart}
 use Rattle.store.specs.Steps.{withNumber, PlaceOf, Forward}
-use Rattle.store.specs.Checks.{Mine}
 use Rattle.store.proofs.Lists.{times-append}
-use Rattle.store.proofs.Canonical.{has-id, places-length}
-use Rattle.store.proofs.Walk.{place-at, each-at}
-use Rattle.store.proofs.Once.{mine-of}
+use Rattle.store.proofs.Canonical.{has-id, places-length, slot-stands}
+use Rattle.store.proofs.Walk.{place-at}
 use Rattle.store.proofs.Standing.{used-small}
-use Rattle.store.proofs.Relaid.{by-slot, entries-kept, Queued, own-places, means}
+use Rattle.store.proofs.Relaid.{by-slot, items-kept, Queued, own-places, means}
 use Rattle.store.proofs.KeptIds.{kept-after, unused-after}
 use Rattle.store.proofs.Moving.{Confirmed, moved-queue}
 use Rattle.store.proofs.Confirm.{apart, confirm-laid, confirm-queue, holds-kept}
@@ -56,7 +53,7 @@ module _ (s t : Store) (w : Shaped s) (h : Laid s) (c i n from to : ℕ) (l : c 
   long = places-length s w h c l
 
   at : getD ps from 0 ≡ i
-  at = place-at s w c l (h .not-longer-than-128 c l) from (place .within) ∙ place .is
+  at = place-at s w c l (h .not-longer-than-136 c l) from (place .within) ∙ place .is
 
   queued : Queued s t c (movedUp i ps from to)
   queued = subst (λ (x : ℕ). Queued s t c (movedUp x ps from to)) at
@@ -77,18 +74,16 @@ module _ (s t : Store) (w : Shaped s) (h : Laid s) (c i n from to : ℕ) (l : c 
   pub forward-laid : Laid t
   forward-laid = confirm-laid s t w h c from to l (omega (arith, long, place .within)) k
       (subst (λ (x : ℕ). Queued s t c (movedUp x ps from to)) (sym at) queued) kept valid (rw (d .map .0, d .map .1)) flags
-      (unused-after s t n (v .id) (w .kept) next (d .confirmations) (d .kept) (h .unused-zero))
+      (unused-after s t n (v .id) (w .kept) next (d .confirmations) (d .kept) (h .unused-zero)) (d .queries)
 
   -- where it stands it stands once
   once : times i ps ≡ 1
-  once = subst (λ (e : ℕ). times i (places s e) ≡ 1) own (there s w h [] [] i held)
+  once = subst (λ (e : ℕ). times i (places s e) ≡ 1) own (there s w h [] [] i small held)
 
   -- no request before it has its id
   first : Apart 128 (λ j. slotAt (s .slots) j .id) → Q.has (v .id) (take from (queueOf s c)) ≡ false
-  first ids = rw (sym (map-take (λ j. entryOf j (slotAt (s .slots) j)) from ps)) (has-none (s .slots) (v .id) (take from ps) (λ j m e.
-      let whole : 0 < times j ps = omega (arith, up j, m) in
-      let mine = each-at (Mine s c) j ps (mine-of s (h .exactly-once) c l) whole in
-      let same : j ≡ i = one-id (λ j. slotAt (s .slots) j .id) ids j i (used-small s (w .slots) j (mine .used)) small (omega (arith, has-id v held)) e in
+  first ids = rw (sym (map-take (itemAt (s .slots) (s .queries)) from ps)) (has-none (s .slots) (s .queries) (v .id) (take from ps) (λ j k m e.
+      let same : j ≡ i = one-id (λ j. slotAt (s .slots) j .id) ids j i k small (omega (arith, has-id v held, e)) e in
       omega (arith, subst (λ (z : ℕ). 0 < times z (take from ps)) same m, apart i ps from (omega (arith, long, place .within)) at once .0)))
     where
       up : (j : ℕ) → times j (take from ps) ≤ times j ps
@@ -97,20 +92,19 @@ module _ (s t : Store) (w : Shaped s) (h : Laid s) (c i n from to : ℕ) (l : c 
   module _ (ids : Apart 128 (λ j. slotAt (s .slots) j .id)) (a : All Confirmed (take to (queueOf s c))) (b : All Waiting (drop to (queueOf s c))) where
     pub forward-queue : queueOf t c ≡ K.moved (v .id) n (queueOf s c)
     forward-queue =
-        ap (entries (t .slots)) (own-places s t c (movedUp i ps from to) queued)
-        ∙ ap (λ (z : List Slot). entries z (movedUp i ps from to)) (d .slots)
-        ∙ confirm-queue (s .slots) ps i from to n (omega (arith, long, place .within)) k at once inside (first ids) a b
+        ap (items (t .slots) (t .queries)) (own-places s t c (movedUp i ps from to) queued)
+        ∙ rw (d .slots, d .queries)
+        (confirm-queue (s .slots) (s .queries) ps i from to n (omega (arith, long, place .within)) k at once inside small (first ids) a b)
 
-    elsewhere : (e : ℕ) → e < 16 → (e ≡ c → ⊥) → entries (t .slots) (places s e) ≡ entries (s .slots) (places s e)
+    elsewhere : (e : ℕ) → e < 16 → (e ≡ c → ⊥) → items (t .slots) (t .queries) (places s e) ≡ items (s .slots) (s .queries) (places s e)
     elsewhere e m ne =
-        ap (λ (z : List Slot). entries z (places s e)) (d .slots)
-        ∙ entries-kept (s .slots) i (withNumber n v) inside (places s e) (h .exactly-once e i m ∙ rw (own, ne-eqb c e (λ z. ne (sym z)), and-false (isUsed v)))
+        rw (d .slots, d .queries)
+        (items-kept (s .slots) i (withNumber n v) inside (s .queries) (places s e) (h .exactly-once e i m ∙ slot-stands s e i small ∙ rw (own, ne-eqb c e (λ z. ne (sym z)), and-false (isUsed v))))
 
     pub forward-means : (base wrk : List ℕ) (back : ℕ)
         → Same (plain t base wrk) (S.inClass (plain s base wrk) c (some (v .id)) (K.told (v .id) back (K.moved (v .id) n (queueOf s c)) (cellsOf base c) (cellsOf wrk c)) .site)
     forward-means base wrk back =
         means s t c (movedUp i ps from to) queued base wrk base wrk (some (v .id)) (K.told (v .id) back (K.moved (v .id) n (queueOf s c)) (cellsOf base c) (cellsOf wrk c))
-        (ap (λ (z : List Slot). entries z (movedUp i ps from to)) (d .slots)
-        ∙ confirm-queue (s .slots) ps i from to n (omega (arith, long, place .within)) k at once inside (first ids) a b)
-        refl refl elsewhere (λ e m ne. (refl, refl)) (d .confirmations) (d .commits ∙ omega arith)
+        (rw (d .slots, d .queries) (confirm-queue (s .slots) (s .queries) ps i from to n (omega (arith, long, place .within)) k at once inside small (first ids) a b))
+        refl refl elsewhere (λ e m ne. (refl, refl)) (d .confirmations) (d .commits ∙ omega arith) (d .begun)
         (kept-after s t n (v .id) (w .kept) next (d .confirmations) (d .kept))

@@ -11,7 +11,7 @@ use borrow.Author.Tests.{ltb-true, ltb-false}
 use Rattle.plain.specs.Site as S
 use Rattle.places.specs.Moves.{part}
 use Rattle.plain.proofs.Tests.{by-test}
-use Rattle.plain.specs.Queue.{Entry, isConfirmed, count}
+use Rattle.plain.specs.Queue.{Item, hasNumber, count}
 use Rattle.plain.specs.Site.{sum, Recent}
 use Rattle.plain.specs.Sound.{InOrder}
 use Rattle.slots.specs.Meaning.{freeSlot, isUsed, noSlot, slotAt}
@@ -19,7 +19,11 @@ use Rattle.slots.specs.declared.Slot.{Slot}
 use Rattle.plain.proofs.Sums.{sum-nothing}
 use Rattle.store.specs.Calls.{fresh}
 use Rattle.store.specs.Meaning.{Same, cellsOf, lenOf, places, plain, plainClass, queueOf}
-use Rattle.store.specs.Sound.{Cells, Rest, Sound, stands, times, Unused}
+use Rattle.store.specs.Sound.{Cells, Rest, Sound, stands, standsAt, times, Unused}
+use Rattle.queries.specs.declared.Query.{Query}
+use Rattle.queries.specs.Table.{freeQuery}
+use Rattle.store.specs.Store.{queryAt}
+use Rattle.store.proofs.Masks.{none-named}
 use Rattle.usedmap.specs.Flags.{bitsOf, usedOf}
 
 module _ where
@@ -41,18 +45,24 @@ module _ where
   no-queue : (c : ℕ) → c < 16 → queueOf fresh c ≡ []
   no-queue c l = rw (no-place c l)
 
-  stands-not : (c i : ℕ) → stands c (slotAt (fresh .slots) i) ≡ 0
-  stands-not c i = by-test (ltb i 128)
-      (λ t. ap (stands c) (slot-free i (ltb-true i 128 t)))
-      (λ f. ap (stands c) (slot-past i (ltb-false i 128 f)))
+  no-query : (p : ℕ) → queryAt (fresh .queries) p ≡ freeQuery
+  unfolding fresh
+  no-query p = by-test (ltb p 8)
+      (λ t. getD-replicate 8 p freeQuery freeQuery (ltb-true p 8 t))
+      (λ f. List·getD-eq-default (replicate 8 freeQuery) freeQuery {n = p} (omega (arith, length-replicate 8 freeQuery, ltb-false p 8 f)))
 
-  zero-part : (c : ℕ) → c < 16 → part (fresh .queue) c ≡ replicate 128 0
+  stands-not : (c b : ℕ) → standsAt fresh c b ≡ 0
+  stands-not c b = by-test (ltb b 128)
+      (λ t. rw t (ap (stands c) (slot-free b (ltb-true b 128 t))))
+      (λ f. rw (f, no-query (b - 128), none-named c))
+
+  zero-part : (c : ℕ) → c < 16 → part (fresh .queue) c ≡ replicate 136 0
   unfolding fresh
   zero-part c l =
-      let n : length (part (replicate 2048 0) c) ≡ 128 = length-take-le 128 (drop (128 * c) (replicate 2048 0)) (omega (arith, length-drop (128 * c) (replicate {A = ℕ} 2048 0), length-replicate {A = ℕ} 2048 0)) in
-      ext-getD 0 (part (replicate 2048 0) c) (replicate 128 0) (n ∙ sym (length-replicate {A = ℕ} 128 0)) (λ i k.
-      let m : i < 128 = omega arith in
-      getD-take 128 (drop (128 * c) (replicate 2048 0)) i 0 m ∙ getD-drop (128 * c) (replicate 2048 0) i 0 ∙ getD-replicate 2048 (128 * c + i) 0 0 (omega arith) ∙ sym (getD-replicate 128 i 0 0 m))
+      let n : length (part (replicate 2176 0) c) ≡ 136 = length-take-le 136 (drop (136 * c) (replicate 2176 0)) (omega (arith, length-drop (136 * c) (replicate {A = ℕ} 2176 0), length-replicate {A = ℕ} 2176 0)) in
+      ext-getD 0 (part (replicate 2176 0) c) (replicate 136 0) (n ∙ sym (length-replicate {A = ℕ} 136 0)) (λ i k.
+      let m : i < 136 = omega arith in
+      getD-take 136 (drop (136 * c) (replicate 2176 0)) i 0 m ∙ getD-drop (136 * c) (replicate 2176 0) i 0 ∙ getD-replicate 2176 (136 * c + i) 0 0 (omega arith) ∙ sym (getD-replicate 136 i 0 0 m))
 
   same-map : usedOf (fresh .low) (fresh .high) ≡ map isUsed (fresh .slots)
   unfolding fresh usedOf bitsOf
@@ -62,8 +72,8 @@ module _ where
   unfolding fresh
   zero-both e = rw e
 
-  counts : fresh .confirmations ≡ fresh .commits + sum (λ c. count isConfirmed (queueOf fresh c)) 16
-  counts = zero-both (sum-nothing (λ c. count isConfirmed (queueOf fresh c)) 16 (λ c l. ap (λ (q : List Entry). count isConfirmed q) (no-queue c l)))
+  counts : fresh .confirmations ≡ fresh .commits + sum (λ c. count hasNumber (queueOf fresh c)) 16
+  counts = zero-both (sum-nothing (λ c. count hasNumber (queueOf fresh c)) 16 (λ c l. ap (λ (q : List Item). count hasNumber q) (no-queue c l)))
 
   none-recent : (n : ℕ) → Recent (fresh .confirmations) n → ⊥
   unfolding fresh
@@ -77,19 +87,20 @@ module _ where
   fresh-sound base = record {
     laid = record {
       free-or-valid = λ i l. inl (slot-free i l);
-      not-longer-than-128 = λ c l. rw (no-len c l) (omega arith);
+      not-longer-than-136 = λ c l. rw (no-len c l) (omega arith);
       exactly-once = λ c i l. ap (times i) (no-place c l) ∙ sym (stands-not c i);
       past-the-end-zero = λ c l. rw (no-len c l) (zero-part c l);
       map-agrees = same-map;
       unused-zero = none-kept;
+      free-queries-zero = λ p z. ap (λ (q : Query). q .begun) (no-query p);
     };
     ids-differ = λ i j l m e. ap (λ (v : Slot). v .id) (slot-free i (omega arith));
-    confirmed-before-waiting = λ c l. subst (λ (q : List Entry). InOrder 0 (fresh .confirmations) q) (sym (no-queue c l)) tt;
+    confirmed-before-waiting = λ c l. subst (λ (q : List Item). InOrder 0 (fresh .confirmations) q) (sym (no-queue c l)) tt;
     numbers-differ = λ i j l m e. ap (λ (v : Slot). v .number) (slot-free i (omega arith));
     counts-agree = counts;
     backs-bounded = λ i l. rw (slot-free i l) (omega arith);
     only-a-head-done = λ c l. subst Rest (sym (no-queue c l)) tt;
-    working-cells-follow = λ c l. subst (λ (q : List Entry). Cells q (cellsOf base c) (cellsOf base c)) (sym (no-queue c l)) refl;
+    working-cells-follow = λ c l. subst (λ (q : List Item). Cells q (cellsOf base c) (cellsOf base c)) (sym (no-queue c l)) refl;
     kept-not-zero = λ n r. absurd (none-recent n r);
     kept-differ = λ m n r. absurd (none-recent m r);
     kept-queued = λ i l u n r. absurd (none-recent n r);
@@ -109,5 +120,6 @@ module _ where
     class = λ c l. λ i. record { queue = no-queue c l i; committed = zero-cells c l i; working = zero-cells c l i };
     confirmations = refl;
     commits = refl;
+    queries = refl;
     kept = λ n r. absurd (omega (arith, r .given, r .within));
   }

@@ -30,7 +30,6 @@ use Rattle.store.specs.Checks.{InUse, Spare}
 use Rattle.store.specs.Meaning.{Same, lenOf, plain, plainClass}
 use Rattle.store.specs.Steps.{placed}
 use Rattle.store.specs.Store.{Shaped, Store}
-use Rattle.usedmap.proofs.Flags.{full}
 use Rattle.usedmap.specs.Flags.{countUsed, firstFree, usedOf}
 
 -- a plain call that is refused, one that is accepted
@@ -44,7 +43,7 @@ module _ (p : S.Site) (k : S.Call) where
   accepted-call e = rw (e)
 
 pub same-refl : (a : S.Site) → Same a a
-same-refl a = record { class = λ c l. refl; confirmations = refl; commits = refl; kept = λ n r. refl }
+same-refl a = record { class = λ c l. refl; confirmations = refl; commits = refl; queries = refl; kept = λ n r. refl }
 
 -- a call that is refused on a sound site
 pub not-done : (x : State) (k : S.Call) (n : ℕ) → RightCells x → SoundState x → 0 < n → S.refusal (plainOf x) k ≡ n → Did x k x (K.refused n)
@@ -82,7 +81,7 @@ module _ (x : State) (w : Shaped (x .site)) (r : RightCells x) (q : SoundState x
     pub id-queued : (j : ℕ) → slotAt (s .slots) j .id ≡ v .id → Did x k x (K.refused 4)
     id-queued j e =
         let u = has-id v held in
-        let found = id-found s w (q .laid) (x .committed) (x .working) (to-plain s (w .slots) (q .laid) (x .committed) (x .working) q) j (omega arith) in
+        let found = id-found s w (q .laid) (x .committed) (x .working) (to-plain s (w .slots) (w .queries) (q .laid) (x .committed) (x .working) q) j (omega arith) in
         not-done x k 4 r q (omega arith) (left-tests ∙ rw (← e, lt-ltb (S.classOf p (slotAt (s .slots) j .id)) 16 (omega (arith, found .0, found .1))))
 
     module _ (absent : (j : ℕ) → j < 128 → slotAt (s .slots) j .id ≡ v .id → ⊥) where
@@ -117,8 +116,8 @@ module _ (x : State) (w : Shaped (x .site)) (r : RightCells x) (q : SoundState x
           pub here : (firstFree (usedOf (s .low) (s .high)) < 128) × (slotAt (s .slots) (firstFree (usedOf (s .low) (s .high))) ≡ freeSlot)
           here = lowest-is-free s w (q .laid) (x .committed) (x .working) left
 
-          pub fits : lenOf s (v .class) < 128
-          fits = omega (arith, room s w (q .laid) (x .committed) (x .working) (v .class) (has-class v held), queued-is s w (q .laid) (x .committed) (x .working))
+          pub fits : lenOf s (v .class) < 136
+          fits = omega (arith, room s w (q .laid) (x .committed) (x .working) (to-plain s (w .slots) (w .queries) (q .laid) (x .committed) (x .working) q) (v .class) (has-class v held), queued-is s w (q .laid) (x .committed) (x .working))
 
         module _ (left : countUsed (usedOf (s .low) (s .high)) < 128) (lo hi : ℕ)
             (marked : usedOf lo hi ≡ set (usedOf (s .low) (s .high)) (firstFree (usedOf (s .low) (s .high))) true) where
@@ -140,7 +139,7 @@ module _ (x : State) (w : Shaped (x .site)) (r : RightCells x) (q : SoundState x
           unfolding K.offerStep plain plainClass
           offered = record {
             cells = r;
-            sound = sound-kept x y k w (length-set (s .slots) i v ∙ w .slots) q
+            sound = sound-kept x y k w (length-set (s .slots) i v ∙ w .slots) (w .queries) q
                 (offer-laid s w (q .laid) (v .class) i v lo hi (has-class v held) (here left .0) (here left .1) held refl (fits left) marked) means;
             site = means;
             answer = rw (outcome, length-map, places-length s w (q .laid) (v .class) (has-class v held));

@@ -1,55 +1,28 @@
--- The walk over the classes' queues: each used slot stands once. Assumes nothing.
-use Prim.Native.Nat.{ℕ, zero, suc, _+_, _-_, _<_, _≤_, _^_}
+-- What stands in the queues of a laid out site: used slots of the class, and queries that have it still to read. Assumes nothing.
+use Prim.Native.Nat.{ℕ, zero, suc, _-_, _<_, _≤_}
 use native.Mathlib.Omega.{arith}
 use mathlib.Core.Path.{_≡_, refl, sym, ap, _∙_}
 use mathlib.Core.Logic.{_⊎_, inl, inr}
 use mathlib.Core.Bool.{Bool, true, false, cond, _&&_}
 use mathlib.Core.List.{List, [], _∷_}
-use native.Mathlib.Numerals.{add-one}
 use lib.Dec.{eqb, ltb}
-use lib.ListN.{length, getD, replicate, List·getD-eq-default}
-use lib.Seq.{ext-getD}
-use borrow.Author.Count.{below-none, below-more}
+use lib.ListN.{length, List·getD-eq-default}
 use borrow.Author.Tests.{eqb-true, eqb-false, eq-eqb, ne-eqb, ltb-true, ltb-false}
 use Rattle.plain.proofs.Tests.{by-test, no}
-use Rattle.plain.proofs.Deciding.{decides-as, decides-both, decides-eq, decides-false}
-use Rattle.plain.specs.Decides.{Decides}
-use Rattle.plain.specs.Site.{sum}
+use Rattle.plain.specs.Site.{sum, named}
 use Rattle.plain.specs.Sound.{All}
 use Rattle.slots.specs.Meaning.{freeSlot, isUsed, noSlot, slotAt}
 use Rattle.slots.specs.Rules.{Holds}
 use Rattle.slots.specs.declared.Slot.{Slot}
+use Rattle.plain.proofs.Sums.{sum-single, sum-nothing}
+use Rattle.store.proofs.Masks.{none-named}
 use Rattle.store.proofs.Canonical.{has-class}
-use Rattle.plain.proofs.Sums.{sum-same, sum-single, sum-nothing}
-use Rattle.store.proofs.Walk.{once-holds}
-use Rattle.store.specs.Checks.{Fresh, Mine, mark}
+use Rattle.store.specs.Checks.{Reading, Stays}
 use Rattle.store.specs.Meaning.{places}
 use Rattle.store.specs.Sound.{Once, SlotsOk, stands, times}
-use Rattle.store.specs.Store.{Shaped, Store}
-use Rattle.usedmap.proofs.Flags.{used-inj, used-length}
-use Rattle.usedmap.specs.Flags.{bitsOf, usedOf}
-
--- what is known of the queues of the classes before c
-pub record Seen (s : Store) (c lo hi : ℕ) : Type 0 where
-  pub mine : (d : ℕ) → d < c → All (Mine s d) (places s d)
-  pub marks : (i : ℕ) → mark lo hi i ≡ sum (λ d. times i (places s d)) c
-
--- a map with nothing marked
-get-same : (n i : ℕ) → getD (replicate n false) i false ≡ false
-get-same zero i = refl
-get-same (suc n) zero = refl
-get-same (suc n) (suc i) = get-same n i
-
-pub none-seen : (s : Store) → Seen s 0 0 0
-unfolding sum usedOf bitsOf
-none-seen s = record { mine = below-none _; marks = λ i. ap (λ (b : Bool). cond b 1 0) (get-same 128 i) }
-
-pub one-seen : {s : Store} {c lo hi : ℕ} (lo′ hi′ : ℕ) → Seen s c lo hi → Fresh s c lo hi × ((i : ℕ) → mark lo′ hi′ i ≡ mark lo hi i + times i (places s c)) → Seen s (c + 1) lo′ hi′
-unfolding sum
-one-seen {s} {c} lo′ hi′ h m = record {
-  mine = below-more (λ d. All (Mine s d) (places s d)) c (h .mine) (m .0 .mine);
-  marks = λ i. rw add-one (omega (arith, m .1 i, h .marks i));
-}
+use Rattle.queries.specs.declared.Query.{Query}
+use Rattle.queries.specs.Table.{freeQuery}
+use Rattle.store.specs.Store.{Store, queryAt}
 
 neither : (b : Bool) → _≡_ {A = ℕ} (cond (b && false) 1 0) 0
 neither true = refl
@@ -110,66 +83,25 @@ class-of s n h i u =
     go (inl e) = no _ u (ap isUsed e)
     go (inr e) = has-class (slotAt (s .slots) i) e
 
--- the same of all used slots; and that a map has the flag of each slot
-abbrev pub HasClass : Store → Type 0
-HasClass s = (i : ℕ) → isUsed (slotAt (s .slots) i) ≡ true → slotAt (s .slots) i .class < 16
-
-abbrev pub Flagged : Store → (low high : ℕ) → Type 0
-Flagged s low high = (i : ℕ) → getD (usedOf low high) i false ≡ isUsed (slotAt (s .slots) i)
+-- a query that reads a class is one of the 8
+pub reading-small : (s : Store) → length (s .queries) ≡ 8 → (c p : ℕ) → Reading s c p → p < 8
+reading-small s n c p h =
+    by-test (ltb p 8) (ltb-true p 8)
+    (λ f. let z : queryAt (s .queries) p .classes ≡ 0 = ap (λ (q : Query). q .classes) (List·getD-eq-default (s .queries) freeQuery (omega (arith, ltb-false p 8 f))) in
+    no _ h (rw z (none-named c)))
 
 module _ (s : Store) (once : Once s) where
-  -- what stands in a queue is a used slot of the class
-  pub mine-of : (c : ℕ) → c < 16 → All (Mine s c) (places s c)
-  mine-of c l = each-of (Mine s c) (places s c) (λ i h.
-      let b = both-true (isUsed (slotAt (s .slots) i)) (eqb (slotAt (s .slots) i .class) c) (rw (once c i l) at h) in
-      record { used = b .0; class = eqb-true (slotAt (s .slots) i .class) c (b .1) })
-
-  all-times : (c i : ℕ) → c ≤ 16 → sum (λ d. times i (places s d)) c ≡ sum (λ d. stands d (slotAt (s .slots) i)) c
-  all-times c i l = sum-same (λ d. times i (places s d)) (λ d. stands d (slotAt (s .slots) i)) c (λ d k. once d i (omega arith))
-
-  fresh-of : (c lo hi : ℕ) → c < 16 → Seen s c lo hi → Fresh s c lo hi
-  unfolding sum
-  fresh-of c lo hi l h = record {
-    mine = mine-of c l;
-    once = λ i. omega (arith, h .marks i, all-times (suc c) i l, stands-once (slotAt (s .slots) i) (suc c));
-  }
-
-  -- the map that the walk leaves is the one that agrees
-  map-of : (lo hi low high : ℕ) → lo < 2 ^ 64 → hi < 2 ^ 64 → low < 2 ^ 64 → high < 2 ^ 64 → HasClass s
-      → Flagged s low high → Seen s 16 lo hi → (lo ≡ low) × (hi ≡ high)
-  map-of lo hi low high a b a′ b′ ok u h =
-      used-inj lo hi low high a b a′ b′
-      (ext-getD false (usedOf lo hi) (usedOf low high) (used-length lo hi ∙ sym (used-length low high)) (λ i l. flag i ∙ sym (u i)))
+  -- what stands in a queue is a used slot of the class, or a query that reads it
+  pub stays-of : (c : ℕ) → c < 16 → All (Stays s c) (places s c)
+  stays-of c l = each-of (Stays s c) (places s c) (λ b h. stays b (rw (once c b l) at h))
     where
-      one : (b b′ : Bool) → _≡_ {A = ℕ} (cond b 1 0) (cond b′ 1 0) → b ≡ b′
-      one true true e = refl
-      one true false e = absurd (omega arith)
-      one false true e = absurd (omega arith)
-      one false false e = refl
+      is-true : (a : Bool) → 0 < cond a 1 0 → a ≡ true
+      is-true true h = refl
+      is-true false h = absurd (omega arith)
 
-      all-stand : (i : ℕ) → sum (λ d. stands d (slotAt (s .slots) i)) 16 ≡ cond (isUsed (slotAt (s .slots) i)) 1 0
-      all-stand i = by-test (isUsed (slotAt (s .slots) i))
-          (λ t. stands-in (slotAt (s .slots) i) 16 (ok i t))
-          (λ f. sum-nothing (λ d. stands d (slotAt (s .slots) i)) 16 (λ d k. rw f) ∙ rw f)
-
-      flag : (i : ℕ) → getD (usedOf lo hi) i false ≡ isUsed (slotAt (s .slots) i)
-      flag i = one _ _ (h .marks i ∙ all-times 16 i (omega arith) ∙ all-stand i)
-
--- a breach of one class is one of the rule
-pub not-once : {s : Store} {c lo hi : ℕ} → c < 16 → Seen s c lo hi → (Fresh s c lo hi → ⊥) → Decides false (Once s)
-not-once {s} {c} {lo} {hi} l h n = decides-false (λ once. n (fresh-of s once c lo hi l h))
-
--- the walk's end: its map is the one that agrees exactly where the rule holds
-once-of : {s : Store} (lo hi : ℕ) → Shaped s → Flagged s lo hi → Seen s 16 lo hi → Once s
-once-of {s} lo hi w u h = once-holds s w (h .mine) (λ i. sym (h .marks i) ∙ ap (λ (b : Bool). cond b 1 0) (u i))
-
-pub at-last : {s : Store} {c : ℕ} (lo hi low high : ℕ) → lo < 2 ^ 64 → hi < 2 ^ 64 → low < 2 ^ 64 → high < 2 ^ 64 → Shaped s → HasClass s
-    → Flagged s low high → c ≡ 16 → Seen s c lo hi → Decides (eqb lo low && eqb hi high) (Once s)
-at-last {s} lo hi low high a b a′ b′ w ok u e h =
-    decides-as
-    (λ q. once-of lo hi w (rw (q .0, q .1) u) all)
-    (λ once. map-of s once lo hi low high a b a′ b′ ok u all)
-    (decides-both (decides-eq lo low) (decides-eq hi high))
-  where
-    all : Seen s 16 lo hi
-    all = rw e at h
+      stays : (b : ℕ) → 0 < cond (ltb b 128) (stands c (slotAt (s .slots) b)) (cond (named (queryAt (s .queries) (b - 128) .classes) c) 1 0) → Stays s c b
+      stays b h =
+          by-test (ltb b 128)
+          (λ t. let u = both-true (isUsed (slotAt (s .slots) b)) (eqb (slotAt (s .slots) b .class) c) (rw t at h) in
+          inl (ltb-true b 128 t, record { used = u .0; class = eqb-true (slotAt (s .slots) b .class) c (u .1) }))
+          (λ f. inr (ltb-false b 128 f, is-true (named (queryAt (s .queries) (b - 128) .classes) c) (rw f at h)))

@@ -17,17 +17,17 @@ use Rattle.store.proofs.Canonical.{canonical, canonical-cells}
 use Rattle.store.proofs.Decided.{sound-decided}
 use Rattle.store.proofs.Meant.{to-plain, from-plain}
 use Rattle.plain.proofs.Sums.{sum-same}
-use Rattle.plain.specs.Queue.{Item, idIs, slotIs, numberIs, isConfirmed, count}
+use Rattle.plain.specs.Queue.{Item, idIs, slotIs, readingIs, hasNumber, count}
 use Rattle.store.specs.Calls.{Called, Did, Refused, RightCells, SoundState, State, plainOf}
-use Rattle.store.specs.Meaning.{Same, plain}
+use Rattle.store.specs.Meaning.{Same}
 use Rattle.store.specs.Sound.{Laid}
 use Rattle.store.specs.Store.{Shaped}
 
 pub same-sym : {a b : S.Site} → Same a b → Same b a
-same-sym e = record { class = λ c l. sym (e .class c l); confirmations = sym (e .confirmations); commits = sym (e .commits); kept = λ n r. sym (e .kept n (rw (e .confirmations) r)) }
+same-sym e = record { class = λ c l. sym (e .class c l); confirmations = sym (e .confirmations); commits = sym (e .commits); queries = sym (e .queries); kept = λ n r. sym (e .kept n (rw (e .confirmations) r)) }
 
 pub same-trans : {a b c : S.Site} → Same a b → Same b c → Same a c
-same-trans e f = record { class = λ c l. e .class c l ∙ f .class c l; confirmations = e .confirmations ∙ f .confirmations; commits = e .commits ∙ f .commits; kept = λ n r. e .kept n r ∙ f .kept n (rw (← (e .confirmations)) r) }
+same-trans e f = record { class = λ c l. e .class c l ∙ f .class c l; confirmations = e .confirmations ∙ f .confirmations; commits = e .commits ∙ f .commits; queries = e .queries ∙ f .queries; kept = λ n r. e .kept n r ∙ f .kept n (rw (← (e .confirmations)) r) }
 
 -- in the one as many requests pass a test as in the other
 pub same-standing : (a b : S.Site) → Same a b → (f : Item → Bool) → S.standing f a ≡ S.standing f b
@@ -40,8 +40,10 @@ same-sound a b e h = record {
   slots = λ j. rw (same-standing a b e (slotIs j)) (h .slots j);
   ids = λ j. rw (same-standing a b e (idIs j)) (h .ids j);
   numbers = λ j. rw (same-standing a b e (numberIs j)) (h .numbers j);
-  tally = omega (arith, e .confirmations, e .commits, h .tally, same-standing a b e isConfirmed);
-  backs = λ c l. rw (e .class c l, e .confirmations) (h .backs c l);
+  entries = λ c l p. rw (e .class c l) (h .entries c l p);
+  agree = λ p m n x y. h .agree p m n (omega (arith, same-standing a b e (readingIs p m))) (omega (arith, same-standing a b e (readingIs p n)));
+  tally = omega (arith, e .confirmations, e .commits, h .tally, same-standing a b e hasNumber);
+  backs = λ c l. rw (e .class c l, e .confirmations, e .queries) (h .backs c l);
   kept-not-zero = λ n r. rw (e .kept n r) (h .kept-not-zero n (there r));
   kept-differ = λ m n r q z. h .kept-differ m n (there r) (there q) (sym (e .kept m r) ∙ z ∙ e .kept n q);
   kept-queued = λ n r. rw (e .kept n r, same-standing a b e (strange n (b .kept n))) (h .kept-queued n (there r));
@@ -51,11 +53,11 @@ same-sound a b e h = record {
     there r = rw (← (e .confirmations)) r
 
 -- a call that leaves the slots and places laid out, and does what the plain call does, leaves the site sound
-pub sound-kept : (x y : State) (k : S.Call) → Shaped (x .site) → length (y .site .slots) ≡ 128 → SoundState x → Laid (y .site)
+pub sound-kept : (x y : State) (k : S.Call) → Shaped (x .site) → length (y .site .slots) ≡ 128 → length (y .site .queries) ≡ 8 → SoundState x → Laid (y .site)
     → Same (plainOf y) (S.call (plainOf x) k .site) → SoundState y
-sound-kept x y k v n q h e =
-    from-plain (y .site) n h (y .committed) (y .working)
-    (same-sound (plainOf y) (S.call (plainOf x) k .site) e (call-sound (plainOf x) k (to-plain (x .site) (v .slots) (q .laid) (x .committed) (x .working) q)))
+sound-kept x y k v n n′ q h e =
+    from-plain (y .site) n n′ h (y .committed) (y .working)
+    (same-sound (plainOf y) (S.call (plainOf x) k .site) e (call-sound (plainOf x) k (to-plain (x .site) (v .slots) (v .queries) (q .laid) (x .committed) (x .working) q)))
 
 -- any two outcomes of a call are equal
 module _ (x : State) (k : S.Call) (y z : State) (a b : K.Answer) (u : Shaped (x .site)) (v : Shaped (y .site)) (w : Shaped (z .site)) where

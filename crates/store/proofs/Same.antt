@@ -2,17 +2,17 @@
 use Prim.Native.Nat.{ℕ, _<_}
 use mathlib.Core.Path.{_≡_, refl, ap}
 use native.Mathlib.Omega.{arith}
-use mathlib.Core.Bool.{true}
+use mathlib.Core.Bool.{true, not}
 use mathlib.Core.Option.{Option, none, some}
 use mathlib.Core.List.{List, [], _∷_}
 use lib.Dec.{ltb, leb, eqb}
 use lib.ListN.{length}
 use borrow.Author.Tests.{leb-false, ltb-true}
 use Rattle.plain.specs.Record.{requestIn}
-use Rattle.plain.specs.Queue.{slotIs, asked, has}
+use Rattle.plain.specs.Queue.{slotIs, placeIs, asked, has}
 use Rattle.plain.specs.Steps.{Class, Did, workStep, confirmStep}
-use Rattle.plain.specs.Site.{Site, Call, Outcome, offer, work, confirm, read, look, call, act, accepts, refusal, inClass, commitsBy}
-use Rattle.plain.specs.Site.{classOf, isFree, freeSlot, numberQueued, isKept, firstRecent, recentCount}
+use Rattle.plain.specs.Site.{Site, Call, Outcome, offer, work, confirm, read, look, query, call, act, accepts, refusal, inClass, commitsBy}
+use Rattle.plain.specs.Site.{classOf, isFree, freeSlot, numberQueued, isKept, firstRecent, recentCount, isOpen, freePlace}
 use Rattle.plain.specs.History.{afterFrom, worksFrom}
 use Rattle.plain.proofs.Tests.{by-test}
 use Rattle.plain.proofs.Sums.{sum-same}
@@ -53,6 +53,11 @@ module _ (a b : Site) (e : Same a b) where
             (λ n l m. rw (e .kept n (record { given = omega arith; within = omega arith; last = omega arith }))),
       )
 
+  -- the lowest free place of queries
+  same-place : freePlace a ≡ freePlace b
+  unfolding freePlace isOpen
+  same-place = lowest-same (λ p. not (isOpen a p)) (λ p. not (isOpen b p)) 1 8 (λ p l m. rw (same-standing a b e (placeIs p)))
+
   -- the class of an id that is queued
   same-at : (i : ℕ) → classOf b i < 16 → a .class (classOf a i) ≡ b .class (classOf b i)
   same-at i l = rw (same-class i) (e .class (classOf b i) l)
@@ -68,12 +73,13 @@ module _ (a b : Site) (e : Same a b) where
       (λ f. rw (same-class i, f, e .confirmations))
   same-refusal (read c k) = refl
   same-refusal (look i) = rw (same-class i)
+  same-refusal (query m) = rw (same-place, e .queries)
 
   -- WHAT AN ACCEPTED CALL DOES. A step in one class that is the same
   step-agrees : (c : ℕ) (new : Option ℕ) (d f : Did) → d ≡ f → Agree (inClass a c new d) (inClass b c new f)
   step-agrees c new d f p = (
     ap (λ (x : Did). x .answer) p,
-    same-in a b c new d f (λ k l n. e .class k l) (e .confirmations) (e .commits) (e .kept) (ap (λ (x : Did). x .class) p)
+    same-in a b c new d f (λ k l n. e .class k l) (e .confirmations) (e .commits) (e .queries) (e .kept) (ap (λ (x : Did). x .class) p)
         (ap (λ (x : Did). commitsBy (x .answer)) p),
   )
 
@@ -87,6 +93,16 @@ module _ (a b : Site) (e : Same a b) where
       rw (same-class i) (step-agrees (classOf b i) (some i) _ _ (ap (confirmStep i n) (e .class (classOf b i) (confirm-accepted b i n t .known))))
   act-agrees (read c k) t = (rw (e .class c (read-accepted b c k t)), e)
   act-agrees (look i) t = (rw (same-at i (look-accepted b i t)), e)
+  act-agrees (query m) t = (
+    rw same-place,
+    record {
+      class = λ c l. rw (same-place, e .confirmations, e .class c l);
+      confirmations = e .confirmations;
+      commits = e .commits;
+      queries = rw (e .queries);
+      kept = e .kept;
+    },
+  )
 
   -- EVERY CALL
   call-agrees : (k : Call) → Agree (call a k) (call b k)

@@ -18,7 +18,7 @@ use Rattle.plain.specs.Site as S
 use Rattle.cells.specs.Ops.{noOp, opOf}
 use Rattle.cells.specs.declared.Op.{Op}
 use Rattle.places.proofs.Parts.{put-apart, put-own}
-use Rattle.plain.proofs.Tests.{by-test, no}
+use Rattle.plain.proofs.Tests.{by-test}
 use Rattle.plain.specs.Sound.{Head}
 use Rattle.slots.proofs.Records.{ops-count}
 use Rattle.slots.proofs.Running as Running
@@ -26,45 +26,47 @@ use Rattle.slots.specs.Meaning.{entryOf, freeSlot, isUsed, noSlot, opAt, reques
 use Rattle.slots.specs.Rules.{Holds}
 use Rattle.slots.specs.Steps.{StepDone, Marked, afterStep, triedBy}
 use Rattle.slots.specs.declared.Slot.{Slot}
-use Rattle.store.proofs.Canonical.{part-is, places-length}
+use Rattle.store.proofs.Canonical.{part-is, places-length, slot-item, slot-stands}
 use Rattle.store.proofs.Cells.{lent, lent-long}
-use Rattle.store.proofs.Commit.{head-is, head-small, stands-class}
-use Rattle.store.proofs.Flat.{empty, head-holds}
+use Rattle.store.proofs.Commit.{head-is, stands-class}
+use Rattle.store.proofs.Meant.{used-holds}
 use Rattle.store.proofs.Offered.{accepted-call, not-done}
 use Rattle.store.proofs.Promise.{same-trans, sound-kept}
-use Rattle.store.proofs.Relaid.{Queued, at-stored, by-slot, entries-kept, means}
+use Rattle.store.proofs.Relaid.{Queued, at-stored, by-slot, items-kept, means}
 use Rattle.plain.proofs.Sums.{sum-term}
-use Rattle.store.specs.Calls.{Did, RightCells, SoundState, State}
-use Rattle.store.specs.Meaning.{Same, cellsOf, entries, lenOf, places, plain, plainClass, queueOf}
-use Rattle.store.specs.Sound.{Cells, Laid, stands, times}
+use Rattle.store.specs.Calls.{Did, RightCells, SoundState, State, plainOf}
+use Rattle.store.specs.Meaning.{Same, cellsOf, items, lenOf, places, plain, plainClass, queueOf}
+use Rattle.store.specs.Sound.{Cells, Laid, stands, standsAt, times}
 use Rattle.store.specs.Steps.{CommitDone, Commitable, headSlot, headTried, withSlot}
-use Rattle.store.specs.Store.{Shaped, Store}
+use Rattle.store.specs.Store.{Shaped, Store, queryAt}
 
 -- a slot in use takes another value of the same record: the site stays laid out, and no queue's places change
 module _ (s : Store) (w : Shaped s) (h : Laid s) (i : ℕ) (m : i < 128) (u : Slot) (id : u .id ≡ slotAt (s .slots) i .id) (class : u .class ≡ slotAt (s .slots) i .class) (holds : Holds u) where
   inside : i < length (s .slots)
   inside = omega (arith, w .slots)
 
-  stands-same : (c j : ℕ) → stands c (slotAt (set (s .slots) i u) j) ≡ stands c (slotAt (s .slots) j)
-  stands-same c j = by-slot (s .slots) i u inside (λ j x. stands c x ≡ stands c (slotAt (s .slots) j)) (rw (id, class)) (λ j n. refl) j
+  stands-same : (c j : ℕ) → standsAt (withSlot s i u) c j ≡ standsAt s c j
+  stands-same c j = by-slot (s .slots) i u inside (λ j x. cond (ltb j 128) (stands c x) (cond (S.named (queryAt (s .queries) (j - 128) .classes) c) 1 0) ≡ standsAt s c j)
+      (rw (id, class)) (λ j n. refl) j
 
   pub kept-laid : Laid (withSlot s i u)
   kept-laid = record {
     free-or-valid = λ j n. by-slot (s .slots) i u inside (λ j x. j < 128 → (x ≡ freeSlot) ⊎ Holds x) (λ n. inr holds) (λ j ne n. h .free-or-valid j n) j n;
-    not-longer-than-128 = h .not-longer-than-128;
+    not-longer-than-136 = h .not-longer-than-136;
     exactly-once = λ c j l. h .exactly-once c j l ∙ sym (stands-same c j);
     past-the-end-zero = h .past-the-end-zero;
     map-agrees = h .map-agrees ∙ sym (map-set-same isUsed (s .slots) i u noSlot (ap (λ (n : ℕ). not (eqb n 0)) id));
     unused-zero = h .unused-zero;
+    free-queries-zero = h .free-queries-zero;
   }
 
   pub kept-queued : (c : ℕ) → c < 16 → Queued s (withSlot s i u) c (places s c)
   kept-queued c l =
       let n = places-length s w h c l in
       record {
-        fits = omega (arith, h .not-longer-than-128 c l);
+        fits = omega (arith, h .not-longer-than-136 c l);
         len = sym n;
-        own = part-is s w h c l ∙ ap (λ (k : ℕ). places s c ++ replicate (128 - k) 0) (sym n);
+        own = part-is s w h c l ∙ ap (λ (k : ℕ). places s c ++ replicate (136 - k) 0) (sym n);
         others = λ d k ne. (refl, refl);
       }
 
@@ -94,12 +96,13 @@ kept-in m n f g (some i) e h j r =
     rw (z, ← e, z) (h j (record { given = r .given; within = omega (arith, r .within); last = omega (arith, r .last) })))
 
 -- two plain sites that differ in class c alone, and steps there that leave the same
-pub same-in : (a b : S.Site) (c : ℕ) (new : Option ℕ) (d e : K.Did) → ((k : ℕ) → k < 16 → (k ≡ c → ⊥) → a .class k ≡ b .class k) → a .confirmations ≡ b .confirmations → a .commits ≡ b .commits → ((n : ℕ) → S.Recent (a .confirmations) n → a .kept n ≡ b .kept n)
+pub same-in : (a b : S.Site) (c : ℕ) (new : Option ℕ) (d e : K.Did) → ((k : ℕ) → k < 16 → (k ≡ c → ⊥) → a .class k ≡ b .class k) → a .confirmations ≡ b .confirmations → a .commits ≡ b .commits → a .queries ≡ b .queries → ((n : ℕ) → S.Recent (a .confirmations) n → a .kept n ≡ b .kept n)
     → d .class ≡ e .class → S.commitsBy (d .answer) ≡ S.commitsBy (e .answer) → Same (S.inClass a c new d .site) (S.inClass b c new e .site)
-same-in a b c new d e f g h ids k m = record {
+same-in a b c new d e f g h nq ids k m = record {
   class = λ j l. by-test (eqb j c) (λ t. rw t k) (λ n. rw n (f j l (eqb-false j c n)));
   confirmations = ap (λ (n : ℕ). n + S.given new) g;
   commits = rw (h, m);
+  queries = nq;
   kept = kept-in (a .confirmations) (b .confirmations) (a .kept) (b .kept) new g ids;
 }
 
@@ -126,9 +129,12 @@ module _ (x : State) (w : Shaped (x .site)) (r : RightCells x) (q : SoundState x
   module _ (l : c < 16) where
     pub work-empty : lenOf s c ≡ 0 → Did x k x (K.refused 11)
     unfolding S.refusal plain plainClass
-    work-empty z = not-done x k 11 r q (omega arith) (rw (lt-leb 16 c l, ap K.idle (empty s w (q .laid .not-longer-than-128) c l z)))
+    work-empty z = not-done x k 11 r q (omega arith) (rw (lt-leb 16 c l, ap K.idle none-there))
+      where
+        none-there : queueOf s c ≡ []
+        none-there = rw z
 
-    module _ (has : 0 < lenOf s c) where
+    module _ (has : 0 < lenOf s c) (request : headSlot s c < 128) where
       abbrev i : ℕ
       i = headSlot s c
 
@@ -138,8 +144,8 @@ module _ (x : State) (w : Shaped (x .site)) (r : RightCells x) (q : SoundState x
       abbrev ps : List ℕ
       ps = drop 1 (places s c)
 
-      abbrev rest : List Q.Entry
-      rest = entries (s .slots) (drop 1 (places s c))
+      abbrev rest : List Q.Item
+      rest = items (s .slots) (s .queries) (drop 1 (places s c))
 
       abbrev tr : P.Ran
       tr = headTried s wrk c
@@ -151,19 +157,28 @@ module _ (x : State) (w : Shaped (x .site)) (r : RightCells x) (q : SoundState x
       cells = P.leaves tr (cellsOf base c)
 
       small : i < 128
-      small = head-small s w (q .laid) c l has
+      small = request
+
+      once-here : times i (i ∷ ps) ≡ stands c v
+      once-here = ap (times i) (sym (head-is s w (q .laid) c l has)) ∙ q .laid .exactly-once c i l ∙ slot-stands s c i small
 
       pub head-held : Holds v
-      head-held = head-holds s w (q .laid .not-longer-than-128) (q .laid .free-or-valid) (q .laid .exactly-once) c l has
+      head-held =
+          let e : stands c v ≡ suc (times i ps) = sym once-here ∙ rw (eq-eqb i i refl) in
+          used-holds s (w .slots) (w .queries) (q .laid) i (in-use (isUsed v) (eqb (v .class) c) (times i ps) e)
+        where
+          in-use : (a b : Bool) (n : ℕ) → cond (a && b) 1 0 ≡ suc n → a ≡ true
+          in-use true b n e = refl
+          in-use false b n e = absurd (omega arith)
 
       long : length (requestOf v .ops) ≡ v .count
       long = ops-count v (w .ops i small) head-held
 
-      head : queueOf s c ≡ entryOf i v ∷ rest
-      head = ap (entries (s .slots)) (head-is s w (q .laid) c l has)
+      head : queueOf s c ≡ Q.booking (entryOf i v) ∷ rest
+      head = ap (items (s .slots) (s .queries)) (head-is s w (q .laid) c l has) ∙ ap (λ (x : Q.Item). x ∷ rest) (slot-item (s .slots) (s .queries) i small)
 
       pub head-sound : Head (entryOf i v) (cellsOf base c) (cellsOf wrk c)
-      head-sound = subst (λ (z : List Q.Entry). Cells z (cellsOf base c) (cellsOf wrk c)) head (q .working-cells-follow c l)
+      head-sound = subst (λ (z : List Q.Item). Cells z (cellsOf base c) (cellsOf wrk c)) head (q .working-cells-follow c l)
 
       pub work-idle : v .done ≡ v .count → Did x k x (K.refused 11)
       unfolding S.refusal plain plainClass
@@ -179,8 +194,8 @@ module _ (x : State) (w : Shaped (x .site)) (r : RightCells x) (q : SoundState x
       -- where the head is confirmed, a commit is still to come
       pub commits-less : 0 < v .number → s .commits < s .confirmations
       commits-less n =
-          let f : Q.count Q.isConfirmed (queueOf s c) ≡ 1 + Q.count Q.isConfirmed rest = rw (head, lt-ltb 0 (v .number) n) in
-          omega (arith, q .counts-agree, sum-term (λ c. Q.count Q.isConfirmed (queueOf s c)) 16 c l)
+          let f : Q.count Q.hasNumber (queueOf s c) ≡ 1 + Q.count Q.hasNumber rest = rw (head, lt-ltb 0 (v .number) n) in
+          omega (arith, q .counts-agree, sum-term (λ c. Q.count Q.hasNumber (queueOf s c)) 16 c l)
 
       module _ (left : v .done < v .count) where
         accepted : S.refusal p k ≡ 0
@@ -193,7 +208,7 @@ module _ (x : State) (w : Shaped (x .site)) (r : RightCells x) (q : SoundState x
         outcome : S.call p k ≡ S.inClass p c none did
         unfolding S.act K.workStep plain plainClass
         outcome = accepted-call p k accepted ∙ ap (S.inClass p c none)
-            (ap (λ (z : List Q.Entry). K.workOn z (cellsOf base c) (cellsOf wrk c)) head
+            (ap (λ (z : List Q.Item). K.workOn z (cellsOf base c) (cellsOf wrk c)) head
             ∙ ap (λ (o : P.Ran). K.worked (K.advanced (entryOf i v) o) rest (cellsOf base c) (P.leaves o (cellsOf base c))) (tried-same i v (w .ops i small) head-held left (cellsOf wrk c)))
 
         after-held : Holds u
@@ -202,9 +217,6 @@ module _ (x : State) (w : Shaped (x .site)) (r : RightCells x) (q : SoundState x
         pub after-laid : Laid (withSlot s i u)
         after-laid = kept-laid s w (q .laid) i small u refl refl after-held
 
-        once-here : times i (i ∷ ps) ≡ stands c v
-        once-here = ap (times i) (sym (head-is s w (q .laid) c l has)) ∙ q .laid .exactly-once c i l
-
         gone : times i ps ≡ 0
         gone = let e : suc (times i ps) ≡ stands c v = rw (eq-eqb i i refl) at once-here in omega (arith, at-most (isUsed v && eqb (v .class) c))
           where
@@ -212,13 +224,13 @@ module _ (x : State) (w : Shaped (x .site)) (r : RightCells x) (q : SoundState x
             at-most true = omega arith
             at-most false = omega arith
 
-        queue-after : entries (set (s .slots) i u) (places s c) ≡ entryOf i u ∷ rest
+        queue-after : items (set (s .slots) i u) (s .queries) (places s c) ≡ Q.booking (entryOf i u) ∷ rest
         queue-after =
-            ap (entries (set (s .slots) i u)) (head-is s w (q .laid) c l has)
-            ∙ rw (at-stored (s .slots) i u (omega (arith, w .slots, small)), entries-kept (s .slots) i u (omega (arith, w .slots, small)) ps gone)
+            ap (items (set (s .slots) i u) (s .queries)) (head-is s w (q .laid) c l has)
+            ∙ rw (lt-ltb i 128 small, at-stored (s .slots) i u (omega (arith, w .slots, small)), items-kept (s .slots) i u (omega (arith, w .slots, small)) (s .queries) ps gone)
 
-        others-after : (d : ℕ) → d < 16 → (d ≡ c → ⊥) → entries (set (s .slots) i u) (places s d) ≡ entries (s .slots) (places s d)
-        others-after d m ne = entries-kept (s .slots) i u (omega (arith, w .slots, small)) (places s d) (q .laid .exactly-once d i m ∙ rw (of-class, ne-eqb c d (λ e. ne (sym e))) (off (isUsed v)))
+        others-after : (d : ℕ) → d < 16 → (d ≡ c → ⊥) → items (set (s .slots) i u) (s .queries) (places s d) ≡ items (s .slots) (s .queries) (places s d)
+        others-after d m ne = items-kept (s .slots) i u (omega (arith, w .slots, small)) (s .queries) (places s d) (q .laid .exactly-once d i m ∙ slot-stands s d i small ∙ rw (of-class, ne-eqb c d (λ e. ne (sym e))) (off (isUsed v)))
           where
             off : (b : Bool) → _≡_ {A = ℕ} (cond (b && false) 1 0) 0
             off true = refl
@@ -232,12 +244,12 @@ module _ (x : State) (w : Shaped (x .site)) (r : RightCells x) (q : SoundState x
           y = record { site = withSlot s i u; committed = x .committed; working = wrk′ }
 
           -- the head stays at the head
-          stays : (a : K.Answer) → S.commitsBy a ≡ 0 → did ≡ record { class = record { queue = entryOf i u ∷ rest; committed = cellsOf base c; working = cells }; answer = a } → Did x k y a
+          stays : (a : K.Answer) → S.commitsBy a ≡ 0 → did ≡ record { class = record { queue = Q.booking (entryOf i u) ∷ rest; committed = cellsOf base c; working = cells }; answer = a } → Did x k y a
           stays a z e =
-              let o : S.call p k ≡ S.inClass p c none (record { class = record { queue = entryOf i u ∷ rest; committed = cellsOf base c; working = cells }; answer = a }) = outcome ∙ ap (S.inClass p c none) e in
-              let m : Same (plain (withSlot s i u) base wrk′) (S.call p k .site) = rw o (means s (withSlot s i u) c (places s c) (kept-queued s w (q .laid) i small u refl refl after-held c l) base wrk base wrk′ none (record { class = record { queue = entryOf i u ∷ rest; committed = cellsOf base c; working = cells }; answer = a })
-              queue-after refl own others-after (λ d m ne. (refl, others d ne)) (omega arith) (rw z (omega arith)) (λ n r. refl)) in
-              record { cells = (r .0, n); sound = sound-kept x y k w (length-set (s .slots) i u ∙ w .slots) q after-laid m; site = m; answer = rw o }
+              let o : S.call p k ≡ S.inClass p c none (record { class = record { queue = Q.booking (entryOf i u) ∷ rest; committed = cellsOf base c; working = cells }; answer = a }) = outcome ∙ ap (S.inClass p c none) e in
+              let m : Same (plainOf y) (S.call p k .site) = rw o (means s (withSlot s i u) c (places s c) (kept-queued s w (q .laid) i small u refl refl after-held c l) base wrk base wrk′ none (record { class = record { queue = Q.booking (entryOf i u) ∷ rest; committed = cellsOf base c; working = cells }; answer = a })
+              queue-after refl own others-after (λ d m ne. (refl, others d ne)) (omega arith) (rw z (omega arith)) refl (λ n r. refl)) in
+              record { cells = (r .0, n); sound = sound-kept x y k w (length-set (s .slots) i u ∙ w .slots) (w .queries) q after-laid m; site = m; answer = rw o }
 
           pub work-stepped : suc (v .done) < v .count → Did x k y (K.stepped (v .id) (suc (v .done)))
           work-stepped h = stays _ refl (rw (long, lt-leb (v .count) (suc (v .done)) h))
@@ -245,20 +257,20 @@ module _ (x : State) (w : Shaped (x .site)) (r : RightCells x) (q : SoundState x
           pub work-executed : v .count ≤ suc (v .done) → v .number ≡ 0 → Did x k y (K.executed (v .id))
           work-executed h z = stays _ refl (rw (long, le-leb (v .count) (suc (v .done)) h, le-ltb 0 (v .number) (omega arith)))
 
-          between : Same (S.inClass (plain (withSlot s i u) base wrk′) c none (K.commit (entryOf i u) (entries (set (s .slots) i u) ps) (cellsOf wrk′ c)) .site)
-              (S.inClass p c none (K.commit (entryOf i u) rest cells) .site)
+          between : Same (S.inClass (plain (withSlot s i u) base wrk′) c none (K.commit (Q.booking (entryOf i u)) (items (set (s .slots) i u) (s .queries) ps) (cellsOf wrk′ c)) .site)
+              (S.inClass p c none (K.commit (Q.booking (entryOf i u)) rest cells) .site)
           unfolding plain plainClass
-          between = same-in (plain (withSlot s i u) base wrk′) p c none (K.commit (entryOf i u) (entries (set (s .slots) i u) ps) (cellsOf wrk′ c)) (K.commit (entryOf i u) rest cells)
-              (λ d m ne. λ j. record { queue = others-after d m ne j; committed = cellsOf base d; working = others d ne j }) refl refl (λ n r. refl)
-              (λ j. record { queue = entries-kept (s .slots) i u (omega (arith, w .slots, small)) ps gone j; committed = own j; working = own j }) refl
+          between = same-in (plain (withSlot s i u) base wrk′) p c none (K.commit (Q.booking (entryOf i u)) (items (set (s .slots) i u) (s .queries) ps) (cellsOf wrk′ c)) (K.commit (Q.booking (entryOf i u)) rest cells)
+              (λ d m ne. λ j. record { queue = others-after d m ne j; committed = cellsOf base d; working = others d ne j }) refl refl refl (λ n r. refl)
+              (λ j. record { queue = items-kept (s .slots) i u (omega (arith, w .slots, small)) (s .queries) ps gone j; committed = own j; working = own j }) refl
 
           pub work-committed : v .count ≤ suc (v .done) → 0 < v .number → (t : Store) (base′ : List ℕ) → CommitDone (withSlot s i u) base wrk′ c t base′
               → Did x k (record { site = t; committed = base′; working = wrk′ }) (K.committed (v .id) (v .number) (P.markOf tr) i (v .backs))
           work-committed h z t base′ d =
-              let e : did ≡ K.commit (entryOf i u) rest cells = rw (long, le-leb (v .count) (suc (v .done)) h, lt-ltb 0 (v .number) z) in
-              let o : S.call p k ≡ S.inClass p c none (K.commit (entryOf i u) rest cells) = outcome ∙ ap (S.inClass p c none) e in
+              let e : did ≡ K.commit (Q.booking (entryOf i u)) rest cells = rw (long, le-leb (v .count) (suc (v .done)) h, lt-ltb 0 (v .number) z) in
+              let o : S.call p k ≡ S.inClass p c none (K.commit (Q.booking (entryOf i u)) rest cells) = outcome ∙ ap (S.inClass p c none) e in
               let m : Same (plain t base′ wrk′) (S.call p k .site) = rw o (same-trans (d .site (entryOf i u)) between) in
-              record { cells = (d .cells, n); sound = sound-kept x (record { site = t; committed = base′; working = wrk′ }) k w (d .slots ∙ length-set (s .slots) i u ∙ w .slots) q (d .laid) m; site = m; answer = rw o }
+              record { cells = (d .cells, n); sound = sound-kept x (record { site = t; committed = base′; working = wrk′ }) k w (d .slots ∙ length-set (s .slots) i u ∙ w .slots) (ap length (d .queries) ∙ w .queries) q (d .laid) m; site = m; answer = rw o }
 
         -- the code's way to it: the class's part of the working cells lent and back, and the slot as the operation left it
         module _ (z : Slot) (after : List ℕ) (n : length after ≡ length (lent wrk c)) (d : StepDone v (lent base c) (lent wrk c) z after) where
@@ -297,7 +309,7 @@ module _ (x : State) (w : Shaped (x .site)) (r : RightCells x) (q : SoundState x
           pub may-commit : 0 < z .number → s .confirmations ≤ 4294967295 → Commitable (withSlot s i z) base wrk′ c
           may-commit =
               subst (λ (z : Slot). 0 < z .number → s .confirmations ≤ 4294967295 → Commitable (withSlot s i z) base wrk′ c) (sym is)
-              (λ n m. record { laid = after-laid; class = l; some = has; cells = (r .0, right); count = omega (arith, commits-less n) })
+              (λ n m. record { laid = after-laid; class = l; some = has; cells = (r .0, right); count = omega (arith, commits-less n); request = request })
 
           pub committed-as : z .count ≤ z .done → 0 < z .number → (t : Store) (base′ : List ℕ) → CommitDone (withSlot s i z) base wrk′ c t base′
               → Did x k (record { site = t; committed = base′; working = wrk′ }) (K.committed (z .id) (z .number) (z .mark) i (z .backs))

@@ -3,11 +3,12 @@ use Prim.Native.Nat.{ℕ}
 use mathlib.Core.Path.{_≡_}
 use mathlib.Core.List.{List}
 use lib.ListN.{length, replicate}
-use Rattle.plain.specs.Sizes.{slotCount, classCount, keptCount}
+use Rattle.plain.specs.Sizes.{slotCount, classCount, queryCount, keptCount}
 use Rattle.plain.specs.Steps.{Answer, refused}
 use Rattle.plain.specs.Site as S
 use Rattle.plain.specs.Site.{Call, call}
 use Rattle.slots.specs.Meaning.{freeSlot}
+use Rattle.queries.specs.Table.{freeQuery}
 use Rattle.store.specs.Store.{Store, placeCount, runSize}
 use Rattle.store.specs.Meaning.{plain, Same}
 use Rattle.store.specs.Sound.{Sound}
@@ -40,14 +41,14 @@ pub record Refused (n : ℕ) (x y : State) (a : Answer) : Type 0 where
   pub untouched : y ≡ x
   pub answer : a ≡ refused n
 
--- THE CONTRACT. Wrong cells: 1; an unsound site: 2; else the plain call, which may be a refusal 3 to 12 or 14 and then leaves the plain site,
--- and so the site. Whether a site is sound is decided, so the three cases are all
+-- THE CONTRACT. Wrong cells: 1; an unsound site: 2; else the plain call, which may be a refusal 3 to 12, 14, 17, 18 or 24 and then leaves the plain site, and so
+-- the site. Whether a site is sound is decided, so the three cases are all
 pub record Called (x : State) (k : Call) (y : State) (a : Answer) : Type 0 where
   pub wrong-cells : (RightCells x → ⊥) → Refused 1 x y a
   pub unsound : RightCells x → (SoundState x → ⊥) → Refused 2 x y a
   pub did : RightCells x → SoundState x → Did x k y a
 
--- a site with no request queued and both counts 0
+-- a site with no request queued, no query open and all counts 0
 unfoldable pub fresh : Store
 fresh = record {
   slots = replicate slotCount freeSlot;
@@ -58,6 +59,8 @@ fresh = record {
   confirmations = 0;
   commits = 0;
   kept = replicate keptCount 0;
+  queries = replicate queryCount freeQuery;
+  begun = 0;
 }
 
 -- FRESH takes no site: an empty one comes back, the number 0 and all cells 0; with wrong cells the number 1 and every cell as it was

@@ -1,10 +1,13 @@
 -- What the steps do to the arrays and to a slot. Assumes nothing.
 use Prim.Native.Nat.{ℕ, _+_, _*_, _-_, _%_, _<_, _≤_}
 use mathlib.Core.Path.{_≡_}
+use mathlib.Core.Logic.{_⊎_}
+use mathlib.Core.Bool.{cond}
 use mathlib.Core.Option.{none}
 use mathlib.Core.List.{List, map}
 use Rattle.slots.specs.Steps.{triedBy}
 use Rattle.places.specs.Moves.{Moved}
+use lib.Dec.{ltb}
 use lib.ListN.{length, getD, drop, set}
 use Rattle.plain.specs.Sizes.{keptCount, wideWord}
 use Rattle.plain.specs.Ops.{Ran}
@@ -13,7 +16,7 @@ use Rattle.plain.specs.Steps as K
 use Rattle.plain.specs.Site as S
 use Rattle.slots.specs.Meaning.{slotAt}
 use Rattle.slots.specs.declared.Slot.{Slot}
-use Rattle.store.specs.Meaning.{Same, cellsOf, entries, lenOf, places, plain}
+use Rattle.store.specs.Meaning.{Same, cellsOf, items, lenOf, places, plain}
 use Rattle.store.specs.Sound.{Apart, Laid}
 use Rattle.store.specs.Store.{Store}
 
@@ -21,13 +24,15 @@ use Rattle.store.specs.Store.{Store}
 abbrev pub placed : Store → ℕ → ℕ → Slot → ℕ → ℕ → Store
 placed s c i v lo hi = record {
   slots = set (s .slots) i v;
-  queue = set (s .queue) (128 * c + lenOf s c) i;
+  queue = set (s .queue) (136 * c + lenOf s c) i;
   lens = set (s .lens) c (lenOf s c + 1);
   low = lo;
   high = hi;
   confirmations = s .confirmations;
   commits = s .commits;
   kept = s .kept;
+  queries = s .queries;
+  begun = s .begun;
 }
 
 -- slot i takes v, and nothing else changes
@@ -41,11 +46,13 @@ withSlot s i v = record {
   confirmations = s .confirmations;
   commits = s .commits;
   kept = s .kept;
+  queries = s .queries;
+  begun = s .begun;
 }
 
--- the slot at the head of class c
+-- what stands at the head of class c: a slot, or from 128 on a query
 abbrev pub headSlot : Store → ℕ → ℕ
-headSlot s c = getD (s .queue) (128 * c) 0
+headSlot s c = getD (s .queue) (136 * c) 0
 
 -- what its next operation comes to
 abbrev pub headTried : Store → List ℕ → ℕ → Ran
@@ -58,20 +65,27 @@ pub record Commitable (s : Store) (base wrk : List ℕ) (c : ℕ) : Type 0 where
   pub some : 0 < lenOf s c
   pub cells : (length base ≡ 1024) × (length wrk ≡ 1024)
   pub count : s .commits < 4294967295
+  -- the head is a request
+  pub request : headSlot s c < 128
 
 -- laid out again, and the plain commit of class c
 pub record CommitDone (s : Store) (base wrk : List ℕ) (c : ℕ) (t : Store) (base′ : List ℕ) : Type 0 where
   pub laid : Laid t
   pub slots : length (t .slots) ≡ length (s .slots)
   pub cells : length base′ ≡ 1024
-  pub site : (e : Q.Entry) → Same (plain t base′ wrk) (S.inClass (plain s base wrk) c none (K.commit e (entries (s .slots) (drop 1 (places s c))) (cellsOf wrk c)) .site)
+  pub site : (e : Q.Entry) → Same (plain t base′ wrk) (S.inClass (plain s base wrk) c none (K.commit (Q.booking e) (items (s .slots) (s .queries) (drop 1 (places s c))) (cellsOf wrk c)) .site)
+  pub queries : t .queries ≡ s .queries
 
--- class c's queue can be counted: no slot in it has more done than it has operations, and ids differ
+-- the work calls that what stands at queue place b still takes: one for each operation of a request still to do; an entry of a query is read by one
+abbrev pub leftAt : List Slot → ℕ → ℕ
+leftAt l b = cond (ltb b 128) (slotAt l b .count - slotAt l b .done) 1
+
+-- class c's queue can be counted: no slot in it has more done than it has operations, and ids differ. An entry of a query counts 1
 pub record Countable (s : Store) (c : ℕ) : Type 0 where
   pub laid : Laid s
   pub class : c < 16
   pub ids : Apart 128 (λ i. slotAt (s .slots) i .id)
-  pub within : (p : ℕ) → p < lenOf s c → slotAt (s .slots) (getD (s .queue) (128 * c + p) 0) .done ≤ slotAt (s .slots) (getD (s .queue) (128 * c + p) 0) .count
+  pub within : (p : ℕ) → p < lenOf s c → getD (s .queue) (136 * c + p) 0 < 128 → slotAt (s .slots) (getD (s .queue) (136 * c + p) 0) .done ≤ slotAt (s .slots) (getD (s .queue) (136 * c + p) 0) .count
 
 -- a slot with its number, and a slot put back: nothing done, not declined, put back once more
 abbrev pub withNumber : ℕ → Slot → Slot
@@ -86,6 +100,8 @@ pub record Backable (s : Store) (base wrk : List ℕ) (c : ℕ) : Type 0 where
   pub class : c < 16
   pub some : 0 < lenOf s c
   pub cells : (length base ≡ 1024) × (length wrk ≡ 1024)
+  -- the head is a request
+  pub request : headSlot s c < 128
   pub fits : slotAt (s .slots) (headSlot s c) .backs + 1 < wideWord
 
 -- class c's head is put back: its slot, and the working cells of the class
@@ -106,18 +122,28 @@ numberedStore s i n = record {
   confirmations = s .confirmations + 1;
   commits = s .commits;
   kept = set (s .kept) (n % keptCount) (slotAt (s .slots) i .id);
+  queries = s .queries;
+  begun = s .begun;
 }
 
 -- the place of slot i in class c's queue
 pub record PlaceOf (s : Store) (c i p : ℕ) : Type 0 where
   pub within : p < lenOf s c
-  pub is : getD (s .queue) (128 * c + p) 0 ≡ i
+  pub is : getD (s .queue) (136 * c + p) 0 ≡ i
 
--- the place of the first waiting one in class c's queue, or its length where none waits
-pub record FirstWaiting (s : Store) (c p : ℕ) : Type 0 where
-  pub within : p ≤ lenOf s c
-  pub before : (k : ℕ) → k < p → 0 < slotAt (s .slots) (getD (s .queue) (128 * c + k) 0) .number
-  pub waits : p < lenOf s c → slotAt (s .slots) (getD (s .queue) (128 * c + p) 0) .number ≡ 0
+-- the place of the first waiting one in a queue that begins at flat place a, or its length where none waits, by the number of each slot: before it stand
+-- the confirmed and the entries of queries
+pub record WaitsFrom (number : ℕ → ℕ) (queue : List ℕ) (a len p : ℕ) : Type 0 where
+  pub within : p ≤ len
+  pub before : (k : ℕ) → k < p → (128 ≤ getD queue (a + k) 0) ⊎ (0 < number (getD queue (a + k) 0))
+  pub waits : p < len → (getD queue (a + p) 0 < 128) × (number (getD queue (a + p) 0) ≡ 0)
+
+-- that of class c's queue, and of every class's
+abbrev pub FirstWaiting : Store → ℕ → ℕ → Type 0
+FirstWaiting s c p = WaitsFrom (λ i. slotAt (s .slots) i .number) (s .queue) (136 * c) (lenOf s c) p
+
+abbrev pub FirstsWaiting : Store → List ℕ → Type 0
+FirstsWaiting s ends = (c : ℕ) → c < 16 → FirstWaiting s c (getD ends c 0)
 
 -- slot i of class c has its number, its place `from` has moved forward to `to`, its id is kept, and one confirmation more is counted
 pub record Forward (s : Store) (c i n from to : ℕ) (t : Store) : Type 0 where
@@ -128,3 +154,5 @@ pub record Forward (s : Store) (c i n from to : ℕ) (t : Store) : Type 0 where
   pub confirmations : t .confirmations ≡ s .confirmations + 1
   pub commits : t .commits ≡ s .commits
   pub kept : t .kept ≡ numberedStore s i n .kept
+  pub queries : t .queries ≡ s .queries
+  pub begun : t .begun ≡ s .begun

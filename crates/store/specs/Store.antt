@@ -2,10 +2,16 @@
 use Prim.Native.Nat.{ℕ, _<_, _^_}
 use mathlib.Core.Path.{_≡_}
 use mathlib.Core.List.{List}
-use lib.ListN.{length}
-use Rattle.plain.specs.Sizes.{classCount, slotCount, mostOps, word, keptCount}
+use lib.ListN.{length, getD}
+use Rattle.plain.specs.Sizes.{classCount, slotCount, queryCount, mostOps, word, keptCount}
 use Rattle.slots.specs.declared.Slot.{Slot}
 use Rattle.slots.specs.Meaning.{slotAt}
+use Rattle.queries.specs.declared.Query.{Query}
+use Rattle.queries.specs.Table.{freeQuery}
+
+-- the query at index p, which has the place p + 1; what stands past the end is free
+abbrev pub queryAt : List Query → ℕ → Query
+queryAt l p = getD l p freeQuery
 
 pub record Store : Type 0 where
   pub slots : List Slot
@@ -16,10 +22,13 @@ pub record Store : Type 0 where
   pub confirmations : ℕ
   pub commits : ℕ
   pub kept : List ℕ
+  pub queries : List Query
+  -- the queries begun
+  pub begun : ℕ
 
--- the flat queue places: 128 for each class
+-- the flat queue places: 136 for each class
 abbrev pub placeCount : ℕ
-placeCount = 2048
+placeCount = 2176
 
 -- the cells of a run: 64 for each class
 abbrev pub runSize : ℕ
@@ -35,3 +44,5 @@ pub record Shaped (s : Store) : Type 0 where
   pub low : s .low < 2 ^ 64
   pub high : s .high < 2 ^ 64
   pub kept : length (s .kept) ≡ keptCount
+  pub queries : length (s .queries) ≡ queryCount
+  pub masks : (p : ℕ) → queryAt (s .queries) p .classes < 2 ^ 16

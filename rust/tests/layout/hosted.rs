@@ -1,8 +1,14 @@
 //! A site of plain bytes in the archive's hands, beside the bytes that it should have.
 
-use crate::table::{Field, every_field, kept, len, op, place, site, slot, start_of};
-use shpendorak::raw::{self, ADD, KEPT, MOST_OPS, MOVE, NEED, NUMBERS, Numbers, PUT, RUN_LENGTH};
+use crate::table::{
+    Field, every_field, kept, len, op, place, query, site, slot, start_of, start_of_query,
+};
+use shpendorak::raw::{
+    self, ADD, CELLS, CLASSES, KEPT, MOST_OPS, MOVE, NEED, NUMBERS, Numbers, PUT, RUN_LENGTH, SLOTS,
+};
 
+/// How many confirmations were taken before; its four bytes differ.
+pub const OLD_COUNT: u32 = 0x0D0C_0B0A;
 /// What ids confirmed before are above.
 const OLD_IDS: u64 = 1 << 30;
 /// How often the request in slot 0 was put back already; that in each next slot once more.
@@ -50,6 +56,16 @@ unsafe extern "C" {
         w: *mut u32,
         w_len: usize,
         class: u64,
+        entry: *mut [u32; CELLS],
+        answer: *mut Numbers,
+    ) -> Bytes;
+    fn shpendorak_query(
+        site: Bytes,
+        c: *const u32,
+        c_len: usize,
+        w: *mut u32,
+        w_len: usize,
+        mask: u16,
         answer: *mut Numbers,
     ) -> Bytes;
 }
@@ -60,6 +76,7 @@ pub struct Hosted {
     should: Bytes,
     committed: [u32; RUN_LENGTH],
     working: [u32; RUN_LENGTH],
+    entry: [u32; CELLS],
     answer: Numbers,
     fields: Vec<Field>,
 }
@@ -101,7 +118,8 @@ impl Hosted {
         let site = unsafe { shpendorak_fresh(c, RUN_LENGTH, w, RUN_LENGTH, &mut answer) };
         let should = Bytes([0; site::SIZE]);
         let fields = every_field();
-        let hosted = Hosted { site, should, committed, working, answer, fields };
+        let entry = [0; CELLS];
+        let hosted = Hosted { site, should, committed, working, entry, answer, fields };
         hosted.check(raw::STARTED);
         hosted
     }
@@ -183,10 +201,53 @@ impl Hosted {
     /// Works once for a class; what changes is noted by the caller.
     fn work(&mut self, class: usize) {
         let (c, w) = (self.committed.as_mut_ptr(), self.working.as_mut_ptr());
-        let (class, answer) = (class as u64, &mut self.answer);
+        let (class, entry, answer) = (class as u64, &mut self.entry, &mut self.answer);
+        // SAFETY: both runs have the lengths given, the entry 64 cells, the answer six numbers.
+        self.site = unsafe {
+            shpendorak_work(self.site, c, RUN_LENGTH, w, RUN_LENGTH, class, entry, answer)
+        };
+    }
+
+    /// Begins a query over all classes, which have no requests; it takes a place and stands at the
+    /// end of each queue.
+    pub fn query(&mut self, at: usize) {
+        let (c, w) = (self.committed.as_ptr(), self.working.as_mut_ptr());
+        let (mask, answer) = (u16::MAX, &mut self.answer);
         // SAFETY: both runs have the lengths given, the answer has six numbers.
         self.site =
-            unsafe { shpendorak_work(self.site, c, RUN_LENGTH, w, RUN_LENGTH, class, answer) };
+            unsafe { shpendorak_query(self.site, c, RUN_LENGTH, w, RUN_LENGTH, mask, answer) };
+        let start = start_of_query(at);
+        self.should(query::classes().from(start), mask.into());
+        self.should(query::begun().from(start), OLD_COUNT.into());
+        self.should(site::begun(), at as u64);
+        for class in 0..CLASSES {
+            self.should(place(class, at - 1), (SLOTS + at - 1) as u64);
+            self.should(len(class), at as u64);
+        }
+        self.check(raw::BEGUN);
+        assert_eq!(self.answer[1], at as u64);
+    }
+
+    /// Reads the entry of the query at a place, which is the head of a class; so many stand there, and
+    /// the classes before it are read.
+    pub fn read_entry(&mut self, at: usize, class: usize, queued: usize) {
+        self.entry = [u32::MAX; CELLS];
+        self.work(class);
+        let left = u16::MAX << class << 1;
+        let start = start_of_query(at);
+        self.should(query::classes().from(start), left.into());
+        self.should(query::begun().from(start), if left == 0 { 0 } else { OLD_COUNT.into() });
+        self.leave_queue(class, queued);
+        self.check(raw::ENTRY);
+        assert_eq!(self.entry, [0; CELLS]);
+    }
+
+    /// Notes that the head of a class left its queue, in which so many stood.
+    fn leave_queue(&mut self, class: usize, queued: usize) {
+        let queue = place(class, 0).at;
+        self.should.0.copy_within(queue + 1..queue + queued, queue);
+        self.should(place(class, queued - 1), 0);
+        self.should(len(class), queued as u64 - 1);
     }
 
     /// Works the head of a class, which stands in a slot, to its commit: so many are queued. Its
@@ -201,10 +262,7 @@ impl Hosted {
         }
         self.work(class);
         self.should.0[start..start + slot::SIZE].fill(0);
-        let queue = place(class, 0).at;
-        self.should.0.copy_within(queue + 1..queue + queued, queue);
-        self.should(place(class, queued - 1), 0);
-        self.should(len(class), queued as u64 - 1);
+        self.leave_queue(class, queued);
         self.should_use(slot, false);
         self.should(site::commits(), commits.into());
         self.check(raw::COMMITTED);

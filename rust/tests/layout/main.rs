@@ -8,8 +8,8 @@
 mod hosted;
 mod table;
 
-use hosted::Hosted;
-use shpendorak::raw::{CLASSES, SLOTS};
+use hosted::{Hosted, OLD_COUNT};
+use shpendorak::raw::{CLASSES, QUERIES, SLOTS};
 
 #[test]
 fn every_slot_and_every_queue_place_is_where_the_table_says() {
@@ -23,7 +23,7 @@ fn every_slot_and_every_queue_place_is_where_the_table_says() {
 
 #[test]
 fn numbers_counts_done_and_mark_are_where_the_table_says() {
-    let (class, count) = (5, 0x0D0C_0B0A);
+    let (class, count) = (5, OLD_COUNT);
     let mut hosted = Hosted::fresh();
     hosted.raise_counts(count);
     for slot in 0..SLOTS {
@@ -40,7 +40,7 @@ fn numbers_counts_done_and_mark_are_where_the_table_says() {
 /// Of each two neighbours the second overtakes the first: in every even slot, then in every odd one.
 #[test]
 fn times_put_back_are_where_the_table_says() {
-    let (class, count) = (9, 0x0D0C_0B0A);
+    let (class, count) = (9, OLD_COUNT);
     for first in 0..2 {
         let mut hosted = Hosted::fresh();
         hosted.raise_counts(count);
@@ -58,6 +58,21 @@ fn times_put_back_are_where_the_table_says() {
                 hosted.confirm(slot, number);
             }
             hosted.work_off(slot, class, SLOTS - done, number);
+        }
+    }
+}
+
+/// All queries are begun, one after another, and then read, class by class.
+#[test]
+fn queries_and_their_count_are_where_the_table_says() {
+    let mut hosted = Hosted::fresh();
+    hosted.raise_counts(OLD_COUNT);
+    for place in 1..=QUERIES {
+        hosted.query(place);
+    }
+    for class in 0..CLASSES {
+        for place in 1..=QUERIES {
+            hosted.read_entry(place, class, QUERIES + 1 - place);
         }
     }
 }

@@ -1,6 +1,6 @@
 //! The tables of the structs, written by hand.
 
-use shpendorak::raw::{self, CLASSES, KEPT, MOST_OPS, SLOTS};
+use shpendorak::raw::{self, CLASS_PLACES, CLASSES, KEPT, MOST_OPS, QUERIES, SLOTS};
 
 /// Where a field starts in its struct, and how many bytes it has.
 #[derive(Clone, Copy)]
@@ -62,10 +62,12 @@ table!(
     slot, Slot, 80,
     id 0 4, class 4 1, count 5 1, ops 8 56, number 64 4, done 68 1, mark 69 1, backs 72 8,
 );
+table!(query, Query, 8, classes 0 2, begun 4 4,);
 table!(
-    site, Site, 13_352,
-    slots 0 10_240, queue 10_240 2_048, lens 12_288 16, low 12_304 8, high 12_312 8,
-    confirmations 12_320 4, commits 12_324 4, kept 12_328 1_024,
+    site, Site, 13_552,
+    slots 0 10_240, queue 10_240 2_176, lens 12_416 16, low 12_432 8, high 12_440 8,
+    confirmations 12_448 4, commits 12_452 4, kept 12_456 1_024, queries 13_480 64,
+    begun 13_544 4,
 );
 
 /// Where a slot's struct starts.
@@ -75,7 +77,7 @@ pub fn start_of(slot: usize) -> usize {
 
 /// A queue place of a class.
 pub fn place(class: usize, place: usize) -> Field {
-    site::queue().part(class * SLOTS + place, CLASSES * SLOTS)
+    site::queue().part(class * CLASS_PLACES + place, CLASSES * CLASS_PLACES)
 }
 
 /// The place of the id that is kept under a number.
@@ -83,15 +85,25 @@ pub fn kept(number: u32) -> Field {
     site::kept().part(number as usize % KEPT, KEPT)
 }
 
+/// The bytes in which the query at a place, from 1, starts.
+pub fn start_of_query(place: usize) -> usize {
+    site::queries().part(place - 1, QUERIES).at
+}
+
 /// The length of a class's queue.
 pub fn len(class: usize) -> Field {
     site::lens().part(class, CLASSES)
 }
 
-/// Every field that is no struct: of the operations, the slots and the site.
+/// Every field that is no struct: of the operations, the slots, the queries and the site.
 pub fn every_field() -> Vec<Field> {
-    let own = site::all().into_iter().filter(|field| field.at != site::slots().at);
-    own.chain((0..SLOTS).flat_map(|slot| fields_of_slot(start_of(slot)))).collect()
+    let structs = [site::slots().at, site::queries().at];
+    let own = site::all().into_iter().filter(|field| !structs.contains(&field.at));
+    let slots = (0..SLOTS).flat_map(|slot| fields_of_slot(start_of(slot)));
+    let queries = (1..=QUERIES).flat_map(|place| {
+        query::all().into_iter().map(move |field| field.from(start_of_query(place)))
+    });
+    own.chain(slots).chain(queries).collect()
 }
 
 /// The fields of a slot that starts at a byte, with those of its operations.

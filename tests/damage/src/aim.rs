@@ -1,8 +1,8 @@
 //! Choices among what a site has, for damage that aims.
 
-use crate::view::{place_of, recent};
+use crate::view::{place_of, queue, recent};
 use model::random::Random;
-use shpendorak::raw::{CLASSES, SLOTS, Site, Slot};
+use shpendorak::raw::{CLASS_PLACES, CLASSES, SLOTS, Site, Slot};
 
 /// One time in two, out of a hundred.
 pub const HALF: usize = 50;
@@ -23,6 +23,20 @@ pub fn any_slot(
 pub fn any_class(random: &mut Random, allows: impl Fn(usize) -> bool) -> Option<usize> {
     let allowed: Vec<usize> = (0..CLASSES).filter(|&class| allows(class)).collect();
     (!allowed.is_empty()).then(|| random.pick(&allowed))
+}
+
+/// Two neighbours in a queue that a test allows change places.
+pub fn swap_places(random: &mut Random, site: &mut Site, allows: impl Fn(&Site, u8, u8) -> bool) {
+    let pairs = (0..CLASSES).flat_map(|class| {
+        let pairs = queue(site, class).windows(2).enumerate();
+        pairs.map(move |(place, pair)| (class * CLASS_PLACES + place, pair[0], pair[1]))
+    });
+    let allowed: Vec<usize> =
+        pairs.filter(|&(_, one, next)| allows(site, one, next)).map(|(at, _, _)| at).collect();
+    if !allowed.is_empty() {
+        let at = random.pick(&allowed);
+        site.queue.swap(at, at + 1);
+    }
 }
 
 /// Raises both counts alike and keeps other ids: a sound site mostly stays sound, and after 256 its

@@ -20,7 +20,7 @@ const BEYOND_8_BITS: u64 = 1 << u8::BITS;
 const ODD_LENGTHS: [usize; 5] = [0, 1, 63, 65, 128];
 
 /// One call of each kind.
-pub fn six(random: &mut Random, subject: &Subject) -> [Call; 6] {
+pub fn each(random: &mut Random, subject: &Subject) -> [Call; 7] {
     let site = &subject.site;
     [
         Call::Fresh,
@@ -29,7 +29,20 @@ pub fn six(random: &mut Random, subject: &Subject) -> [Call; 6] {
         Call::Work { class: class(random, site) },
         Call::Read { class: class(random, site), cell: below(random, CELLS) },
         Call::Look { id: id(random, site) },
+        query(random),
     ]
+}
+
+/// A query, mostly over a few classes; else over any, all or none.
+pub fn query(random: &mut Random) -> Call {
+    let few = 1 << random.below(CLASSES) | 1 << random.below(CLASSES);
+    let any = random.number() as u16;
+    Call::Query { mask: random.pick(&[few, few, few, any, u16::MAX, 0]) }
+}
+
+/// A look.
+pub fn look(random: &mut Random, subject: &Subject) -> Call {
+    Call::Look { id: id(random, &subject.site) }
 }
 
 /// The call that an event asks for; none if its kind is unknown.

@@ -1,4 +1,4 @@
-//! The six calls: made by the archive, and what they must do by the rules of the build.
+//! The seven calls: made by the archive, and what they must do by the rules of the build.
 
 use crate::plain::{from_plain, given, to_plain};
 use crate::subject::Subject;
@@ -15,10 +15,11 @@ pub enum Call {
     Work { class: u64 },
     Read { class: u64, cell: u64 },
     Look { id: u64 },
+    Query { mask: u16 },
 }
 
 /// The names of the calls, in their order above.
-pub const NAMES: [&str; 6] = ["fresh", "offer", "confirm", "work", "read", "look"];
+pub const NAMES: [&str; 7] = ["fresh", "offer", "confirm", "work", "read", "look", "query"];
 
 /// What a call must find in its subject.
 #[derive(Clone, Copy, Debug, PartialEq, Eq)]
@@ -50,6 +51,7 @@ impl Call {
             Call::Work { .. } => 3,
             Call::Read { .. } => 4,
             Call::Look { .. } => 5,
+            Call::Query { .. } => 6,
         }
     }
 
@@ -68,6 +70,7 @@ impl Call {
             Call::Work { class } => site.work(committed, working, *class),
             Call::Read { class, cell } => site.read(committed, working, *class, *cell),
             Call::Look { id } => site.look(committed, working, *id),
+            Call::Query { mask } => site.query(committed, working, *mask),
         };
         Outcome { answer, after }
     }
@@ -101,6 +104,7 @@ impl Call {
             Call::Work { class } => plain.work(byte(*class)),
             Call::Read { class, cell } => plain.read(byte(*class), byte(*cell)),
             Call::Look { id } => plain.look(narrow(*id)),
+            Call::Query { mask } => plain.query(*mask),
         }
     }
 }

@@ -7,6 +7,7 @@ use crate::subject::{FIELDS, Field, Subject, field_of};
 use crate::view::is_used;
 use model::craft;
 use model::random::Random;
+use model::site::Item;
 use shpendorak::raw::{MOST_OPS, RUN_LENGTH, SLOTS};
 
 /// Lengths that runs of cells must not have.
@@ -72,8 +73,8 @@ fn take_field(subject: &mut Subject, other: &mut Subject, field: &Field) {
     }
 }
 
-/// Both counts and all times put back raised alike, up to or near the last number, with other ids
-/// kept: a sound site mostly stays sound.
+/// All counts and all times put back raised, up to or near the last number, with other ids kept: a
+/// sound site mostly stays sound.
 pub fn late(random: &mut Random, base: &Subject) -> Damaged {
     let mut subject = base.clone();
     let room = u32::MAX - subject.site.confirmations.max(subject.site.commits);
@@ -82,6 +83,8 @@ pub fn late(random: &mut Random, base: &Subject) -> Damaged {
     for slot in subject.site.slots.iter_mut().filter(|slot| is_used(slot)) {
         slot.backs += u64::from(raise);
     }
+    let left = random.pick(&[0, 1, 2]);
+    subject.site.begun = subject.site.begun.max(u32::MAX - left);
     Damaged { subject, how: format!("all counts raised by {raise}, other ids kept") }
 }
 
@@ -90,16 +93,20 @@ pub fn late(random: &mut Random, base: &Subject) -> Damaged {
 pub fn still_sound(random: &mut Random, base: &Subject) -> Damaged {
     let mut plain = to_plain(base);
     let turn = random.below(SLOTS);
+    let most_backs = u64::from(plain.confirmations) + u64::from(plain.queries);
     for class in &mut plain.classes {
-        for entry in &mut class.queue {
+        for item in &mut class.queue {
+            let Item::Request(entry) = item else {
+                continue;
+            };
             entry.slot = ((usize::from(entry.slot) + turn) % SLOTS) as u8;
-            entry.backs = random.pick(&[0, entry.backs, plain.confirmations.into()]);
+            entry.backs = random.pick(&[0, entry.backs, most_backs]);
             if entry.done == 0 {
                 let (id, count) = (entry.request.id, 1 + random.below(MOST_OPS));
                 entry.request = craft::request(random, id, entry.request.class, count);
             }
         }
-        if class.queue.first().is_none_or(|head| head.done == 0) {
+        if class.queue.first().and_then(Item::request).is_none_or(|head| head.done == 0) {
             class.committed = class.committed.map(|_| some_cell(random));
             class.working = class.committed;
         }

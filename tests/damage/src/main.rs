@@ -1,21 +1,10 @@
-//! Throws damaged sites at the archive and holds every call against the rules of the build.
+//! Throws damaged sites at the library and holds every call against the rules of the build.
 //!
 //! `damage [STREAMS] [SEED]`: so many streams of traffic, the first from this seed.
 
-mod aim;
-mod ask;
-mod call;
-mod damage;
-mod plain;
-mod rules;
-mod run;
-mod subject;
-mod tally;
-mod view;
-
+use damage::run::Run;
 use model::command::{Found, compared};
 use model::stream::KINDS;
-use run::Run;
 use std::io;
 use std::process::ExitCode;
 
@@ -23,6 +12,10 @@ use std::process::ExitCode;
 const STREAMS: u64 = 2 * KINDS.len() as u64;
 /// The seed where none is given.
 const SEED: u64 = 1;
+/// Events in each stream.
+const EVENTS: u64 = 1_000;
+/// Events from one damaged site to the next.
+const STRIDE: u64 = 40;
 
 /// Runs, and tells by the exit status how it went.
 fn main() -> ExitCode {
@@ -31,7 +24,7 @@ fn main() -> ExitCode {
 
 /// Makes so many streams from a seed; what should have occurred and never did.
 fn run(streams: u64, seed: u64) -> Found {
-    let mut run = Run::new(seed);
+    let mut run = Run::new(seed, EVENTS, Some(STRIDE));
     run.go(streams, seed)?;
     run.tally.write_to(&mut io::stdout().lock())?;
     Ok(run.tally.missing())

@@ -1,35 +1,44 @@
 //! A sound subject as the model's plain queues, and back to its arrays.
 
 use crate::subject::Subject;
-use crate::view::{kept, place_of, queue, recent};
+use crate::view::{entry_of, has_to_read, kept, place_of, query_at, queue, recent};
 use model::answer::Answer;
 use model::record::{Op, Request};
-use model::site::{Class, Entry, Site};
-use shpendorak::raw::{self, CELLS, CLASSES, SLOTS, Slot};
+use model::site::{Class, Entry, Item, Reading, Site};
+use shpendorak::raw::{self, CELLS, CLASS_PLACES, CLASSES, Query, Slot};
 use shpendorak::{Answer as Given, Refusal};
 
 /// The plain queues that a sound subject stands for.
 pub fn to_plain(subject: &Subject) -> Site {
     let classes = (0..CLASSES).map(|class| class_of(subject, class)).collect();
-    let raw::Site { confirmations, commits, .. } = subject.site;
+    let raw::Site { confirmations, commits, begun: queries, .. } = subject.site;
     let kept = recent(&subject.site).map(|number| kept(&subject.site, number)).collect();
-    Site { classes, confirmations, commits, kept }
+    Site { classes, confirmations, commits, queries, kept }
 }
 
 /// One class of a sound subject.
 fn class_of(subject: &Subject, class: usize) -> Class {
     let cells = class * CELLS..(class + 1) * CELLS;
-    let slots = &subject.site.slots;
-    let entries = queue(&subject.site, class).iter();
+    let places = queue(&subject.site, class).iter();
     Class {
-        queue: entries.map(|&slot| entry_of(&slots[usize::from(slot)], slot)).collect(),
+        queue: places.map(|&place| item_of(&subject.site, place)).collect(),
         committed: subject.committed[cells.clone()].try_into().expect("a class has 64 cells"),
         working: subject.working[cells].try_into().expect("a class has 64 cells"),
     }
 }
 
+/// What a queue place of a sound site names.
+fn item_of(site: &raw::Site, place: u8) -> Item {
+    match query_at(place) {
+        None => Item::Request(request_of(&site.slots[usize::from(place)], place)),
+        Some(index) => {
+            Item::Query(Reading { place: index as u8 + 1, begun: site.queries[index].begun })
+        }
+    }
+}
+
 /// The queued request of a used slot.
-fn entry_of(slot: &Slot, number: u8) -> Entry {
+fn request_of(slot: &Slot, number: u8) -> Entry {
     let ops = slot.ops[..usize::from(slot.count)].iter().map(op_of).collect();
     Entry {
         request: Request { id: slot.id, class: slot.class, ops },
@@ -57,11 +66,9 @@ fn op_of(op: &raw::Op) -> Op {
 pub fn from_plain(plain: &Site) -> Subject {
     let mut subject = Subject::empty();
     for (class, queued) in plain.classes.iter().enumerate() {
-        for (place, entry) in queued.queue.iter().enumerate() {
-            let at = usize::from(entry.slot);
-            subject.site.slots[at] = slot_of(entry);
-            subject.site.queue[class * SLOTS + place] = entry.slot;
-            mark_used(&mut subject.site, at);
+        for (place, item) in queued.queue.iter().enumerate() {
+            let name = put(&mut subject.site, class, item);
+            subject.site.queue[class * CLASS_PLACES + place] = name;
         }
         subject.site.lens[class] = queued.queue.len() as u8;
         let cells = class * CELLS..(class + 1) * CELLS;
@@ -70,10 +77,30 @@ pub fn from_plain(plain: &Site) -> Subject {
     }
     subject.site.confirmations = plain.confirmations;
     subject.site.commits = plain.commits;
+    subject.site.begun = plain.queries;
     for (number, id) in recent(&subject.site).zip(&plain.kept) {
         subject.site.kept[place_of(number)] = *id;
     }
     subject
+}
+
+/// Puts what stands in the queue of a class into the site; what names it there.
+fn put(site: &mut raw::Site, class: usize, item: &Item) -> u8 {
+    match item {
+        Item::Request(entry) => {
+            let at = usize::from(entry.slot);
+            site.slots[at] = slot_of(entry);
+            mark_used(site, at);
+            entry.slot
+        }
+        Item::Query(Reading { place, begun }) => {
+            let index = usize::from(*place) - 1;
+            let query = &mut site.queries[index];
+            assert!(!has_to_read(query, class), "a query has one entry at most in a queue");
+            *query = Query { classes: query.classes | 1 << class, begun: *begun };
+            entry_of(index)
+        }
+    }
 }
 
 /// Notes in the map that a slot is used.
@@ -127,6 +154,10 @@ pub fn given(answer: Answer) -> Result<Given, Refusal> {
         Answer::Value(cell) => Given::Value(cell),
         Answer::ToDo { w, backs } => Given::ToDo { w: narrow(w), backs },
         Answer::Unconfirmed { backs } => Given::Unconfirmed { backs },
+        Answer::Begun { place } => Given::Begun { place: place.into() },
+        Answer::Read { place, class, cells } => {
+            Given::Entry { place: place.into(), class: class.into(), cells }
+        }
         Answer::Refused(number) => {
             return Err(Refusal::numbered(number.into()).expect("a refusal of a call"));
         }

@@ -9,6 +9,7 @@
 mod heads;
 mod kept;
 mod numbers;
+mod queries;
 mod queues;
 mod records;
 
@@ -26,7 +27,7 @@ pub struct Rule {
 }
 
 /// Every sound rule, in document 01's order; a new rule is a new row.
-pub static RULES: [Rule; 31] = [
+pub static RULES: [Rule; 38] = [
     Rule {
         words: "a free slot is all zero",
         holds: records::free_slots_are_zero,
@@ -58,7 +59,7 @@ pub static RULES: [Rule; 31] = [
         breach: records::op_past_the_number,
     },
     Rule {
-        words: "no queue is longer than 128",
+        words: "no queue is longer than 136",
         holds: queues::queues_are_short,
         breach: queues::queue_too_long,
     },
@@ -81,6 +82,41 @@ pub static RULES: [Rule; 31] = [
         words: "no free slot stands in a queue",
         holds: queues::free_slots_stand_nowhere,
         breach: queues::free_slot_in_queue,
+    },
+    Rule {
+        words: "every entry belongs to an open query",
+        holds: queries::entries_belong,
+        breach: queries::entry_without_query,
+    },
+    Rule {
+        words: "an open query has an entry in each class left to read",
+        holds: queries::queries_have_entries,
+        breach: queries::class_without_entry,
+    },
+    Rule {
+        words: "one at most in each queue",
+        holds: queries::entries_stand_once,
+        breach: queries::entry_twice,
+    },
+    Rule {
+        words: "entries stand by the count at their beginning",
+        holds: queries::entries_are_in_order,
+        breach: queries::entry_out_of_order,
+    },
+    Rule {
+        words: "which is never above the present one",
+        holds: queries::queries_began_before,
+        breach: queries::begun_above_count,
+    },
+    Rule {
+        words: "a free query is all zero",
+        holds: queries::free_queries_are_zero,
+        breach: queries::free_query_begun,
+    },
+    Rule {
+        words: "working cells equal the committed where an entry is head",
+        holds: queries::read_cells_are_equal,
+        breach: queries::read_cells_wrong,
     },
     Rule {
         words: "queue places past the end are zero",
@@ -119,7 +155,7 @@ pub static RULES: [Rule; 31] = [
         breach: numbers::commits_wrong,
     },
     Rule {
-        words: "no count of times put back is above that count",
+        words: "no count of times put back is above that and the queries",
         holds: numbers::backs_are_counted,
         breach: numbers::backs_above_count,
     },

@@ -1,4 +1,5 @@
-//! The run: traffic by the archive, and at many points of it damaged copies of the site.
+//! A run: traffic with all calls by the library beside the model, and if that is asked for, at many
+//! points of it damaged copies of the site.
 
 use crate::ask;
 use crate::call::{Call, Outcome, State};
@@ -11,10 +12,9 @@ use model::event::{Event, Run as Traffic};
 use model::random::Random;
 use model::stream::{KINDS, Kind, Stream};
 
-/// Events in each stream.
-const EVENTS: u64 = 1_000;
-/// Events from one damaged site to the next.
-const STRIDE: u64 = 40;
+/// Out of a hundred events, after how many a query is begun, and after how many an id is looked at.
+const QUERIES: usize = 6;
+const LOOKS: usize = 10;
 /// Single numbers damaged at each of these points.
 const NUMBERS_A_TIME: usize = 100;
 /// How often each other kind of damage is done at each of these points.
@@ -24,6 +24,10 @@ const TIMES: usize = 4;
 pub struct Run {
     /// What happened so far.
     pub tally: Tally,
+    /// Events in each stream.
+    events: u64,
+    /// Events from one damaged site to the next, if any is damaged.
+    stride: Option<u64>,
     /// Where chance comes from.
     random: Random,
     /// A site of earlier traffic, to mix with.
@@ -36,10 +40,12 @@ pub struct Run {
 pub type Difference = String;
 
 impl Run {
-    /// A run that starts from a seed.
-    pub fn new(seed: u64) -> Run {
+    /// A run over streams of so many events, from a seed.
+    pub fn new(seed: u64, events: u64, stride: Option<u64>) -> Run {
         Run {
             tally: Tally::default(),
+            events,
+            stride,
             random: Random::new(seed),
             earlier: Subject::empty(),
             place: String::new(),
@@ -58,20 +64,43 @@ impl Run {
     fn stream(&mut self, kind: Kind, name: &str, seed: u64) -> Result<(), Difference> {
         let mut traffic = Traffic::fresh();
         let mut subject = Call::Fresh.made(&Subject::empty()).after;
-        for (place, bytes) in (1..).zip(Stream::new(kind, seed, EVENTS)) {
+        for (place, bytes) in (1..).zip(Stream::new(kind, seed, self.events)) {
             self.place = format!("stream {name}, seed {seed}, event {place}");
             traffic.take(&bytes);
             if let Some(call) = Event::decode(&bytes).as_ref().and_then(ask::of_event) {
-                let state = state_of(&subject).0;
-                subject = self.hold(&call, &subject, state, "none")?.after;
-                self.same_as_traffic(&subject, &traffic)?;
+                subject = self.next(&call, &subject, &traffic)?;
             }
-            if place % STRIDE == 0 {
+            for call in self.besides(&subject) {
+                call.on(&mut traffic.site);
+                subject = self.next(&call, &subject, &traffic)?;
+            }
+            if self.stride.is_some_and(|stride| place % stride == 0) {
                 self.damage(&subject)?;
                 self.earlier = subject.clone();
             }
         }
         Ok(())
+    }
+
+    /// The calls that no event asks for, now and then one of each.
+    fn besides(&mut self, subject: &Subject) -> Vec<Call> {
+        let random = &mut self.random;
+        let query = random.chance(QUERIES).then(|| ask::query(random));
+        let look = random.chance(LOOKS).then(|| ask::look(random, subject));
+        query.into_iter().chain(look).collect()
+    }
+
+    /// Makes a call of the traffic, which the model has taken; what it leaves.
+    fn next(
+        &mut self,
+        call: &Call,
+        before: &Subject,
+        traffic: &Traffic,
+    ) -> Result<Subject, Difference> {
+        let state = state_of(before).0;
+        let after = self.hold(call, before, state, "none")?.after;
+        self.same_as_traffic(&after, traffic)?;
+        Ok(after)
     }
 
     /// The subject must be what the model has after all events so far.
@@ -84,16 +113,16 @@ impl Run {
 
     /// Damages copies of a subject in every way.
     fn damage(&mut self, base: &Subject) -> Result<(), Difference> {
-        self.six(damage::none(base))?;
+        self.each(damage::none(base))?;
         for _ in 0..NUMBERS_A_TIME {
             let next = self.tally.numbers % spots();
             let damaged = damage::one_number(&mut self.random, base, next);
             self.tally.numbers += 1;
-            self.six(damaged)?;
+            self.each(damaged)?;
         }
         for rule in &RULES {
             let damaged = damage::aimed(&mut self.random, base, rule);
-            self.six(damaged)?;
+            self.each(damaged)?;
         }
         for _ in 0..TIMES {
             self.other_ways(base)?;
@@ -113,19 +142,19 @@ impl Run {
         let scattered_and_cut = damage::wrong_cells(random, scattered);
         let chance = damage::chance_bytes(random, base);
         for damaged in [mixed, late, sound, cut, field, scattered_and_cut, chance] {
-            self.six(damaged)?;
+            self.each(damaged)?;
         }
         Ok(())
     }
 
-    /// Makes all six calls on a damaged subject.
-    fn six(&mut self, damaged: Damaged) -> Result<(), Difference> {
+    /// Makes each call on a damaged subject.
+    fn each(&mut self, damaged: Damaged) -> Result<(), Difference> {
         let Damaged { subject, how } = damaged;
         let (state, broken) = state_of(&subject);
         self.tally.tried += 1;
         self.tally.sound += u64::from(state == State::Sound);
         self.tally.count_broken(&broken);
-        for call in ask::six(&mut self.random, &subject) {
+        for call in ask::each(&mut self.random, &subject) {
             self.hold(&call, &subject, state, &how)?;
         }
         Ok(())

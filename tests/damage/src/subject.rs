@@ -1,6 +1,8 @@
 //! A site with its two runs of cells, and every number in them by its field.
 
-use shpendorak::raw::{CLASSES, KEPT, MOST_OPS, PLACES, RUN_LENGTH, SLOTS, Site, Slot};
+use shpendorak::raw::{
+    CLASSES, KEPT, MOST_OPS, PLACES, QUERIES, Query, RUN_LENGTH, SLOTS, Site, Slot,
+};
 
 /// What a call is made on: a site and both runs of cells.
 #[derive(Clone, Debug, PartialEq, Eq)]
@@ -17,6 +19,8 @@ pub struct Subject {
 pub enum Spot<'a> {
     /// An 8-bit number.
     Byte(&'a mut u8),
+    /// A 16-bit number.
+    Mask(&'a mut u16),
     /// A 32-bit number.
     Word(&'a mut u32),
     /// A 64-bit number.
@@ -28,6 +32,7 @@ impl Spot<'_> {
     pub fn get(&self) -> u64 {
         match self {
             Spot::Byte(byte) => u64::from(**byte),
+            Spot::Mask(mask) => u64::from(**mask),
             Spot::Word(word) => u64::from(**word),
             Spot::Long(long) => **long,
         }
@@ -37,6 +42,7 @@ impl Spot<'_> {
     pub fn set(&mut self, number: u64) {
         match self {
             Spot::Byte(byte) => **byte = number as u8,
+            Spot::Mask(mask) => **mask = number as u16,
             Spot::Word(word) => **word = number as u32,
             Spot::Long(long) => **long = number,
         }
@@ -46,6 +52,7 @@ impl Spot<'_> {
     pub fn bits(&self) -> usize {
         match self {
             Spot::Byte(_) => u8::BITS as usize,
+            Spot::Mask(_) => u16::BITS as usize,
             Spot::Word(_) => u32::BITS as usize,
             Spot::Long(_) => u64::BITS as usize,
         }
@@ -66,7 +73,7 @@ pub struct Field {
 const OPS: usize = SLOTS * MOST_OPS;
 
 /// Every number of a subject; a new field of the site is a new row.
-pub static FIELDS: [Field; 20] = [
+pub static FIELDS: [Field; 23] = [
     Field { name: "id", count: SLOTS, spot: |s, at| Spot::Word(&mut s.site.slots[at].id) },
     Field { name: "class", count: SLOTS, spot: |s, at| Spot::Byte(&mut s.site.slots[at].class) },
     Field { name: "count", count: SLOTS, spot: |s, at| Spot::Byte(&mut s.site.slots[at].count) },
@@ -85,6 +92,17 @@ pub static FIELDS: [Field; 20] = [
     Field { name: "confirmations", count: 1, spot: |s, _| Spot::Word(&mut s.site.confirmations) },
     Field { name: "commits", count: 1, spot: |s, _| Spot::Word(&mut s.site.commits) },
     Field { name: "kept", count: KEPT, spot: |s, at| Spot::Word(&mut s.site.kept[at]) },
+    Field {
+        name: "mask",
+        count: QUERIES,
+        spot: |s, at| Spot::Mask(&mut s.site.queries[at].classes),
+    },
+    Field {
+        name: "begun",
+        count: QUERIES,
+        spot: |s, at| Spot::Word(&mut s.site.queries[at].begun),
+    },
+    Field { name: "queries", count: 1, spot: |s, _| Spot::Word(&mut s.site.begun) },
     Field { name: "committed", count: RUN_LENGTH, spot: |s, at| Spot::Word(&mut s.committed[at]) },
     Field { name: "working", count: RUN_LENGTH, spot: |s, at| Spot::Word(&mut s.working[at]) },
 ];
@@ -122,6 +140,8 @@ impl Subject {
             confirmations: 0,
             commits: 0,
             kept: [0; KEPT],
+            queries: [Query::default(); QUERIES],
+            begun: 0,
         };
         Subject { site, committed: vec![0; RUN_LENGTH], working: vec![0; RUN_LENGTH] }
     }

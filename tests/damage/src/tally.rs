@@ -7,7 +7,7 @@ use shpendorak::{Answer, Refusal};
 use std::io::{self, Write};
 
 /// The answers other than a refusal.
-const ANSWERS: [&str; 9] = [
+const ANSWERS: [&str; 11] = [
     "queued",
     "stepped",
     "executed",
@@ -17,6 +17,8 @@ const ANSWERS: [&str; 9] = [
     "to-do",
     "unconfirmed",
     "started",
+    "begun",
+    "entry",
 ];
 /// The place of an answer's word.
 fn place_of(answer: Answer) -> usize {
@@ -30,16 +32,18 @@ fn place_of(answer: Answer) -> usize {
         Answer::ToDo { .. } => "to-do",
         Answer::Unconfirmed { .. } => "unconfirmed",
         Answer::Started => "started",
+        Answer::Begun { .. } => "begun",
+        Answer::Entry { .. } => "entry",
         _ => unreachable!("{answer:?} is no answer of these calls"),
     };
     ANSWERS.iter().position(|known| *known == word).expect("every answer has a word")
 }
 
 /// The last refusal of a call.
-const REFUSALS: usize = Refusal::IdKept as usize;
+const REFUSALS: usize = Refusal::QueriesUsedUp as usize;
 
 /// What happened so far.
-#[derive(Clone, Debug, Default)]
+#[derive(Clone, Debug)]
 pub struct Tally {
     /// How many calls of each kind were made.
     calls: [u64; NAMES.len()],
@@ -59,6 +63,23 @@ pub struct Tally {
     broken: [u64; RULES.len()],
     /// In how many it was the only one.
     alone: [u64; RULES.len()],
+}
+
+impl Default for Tally {
+    /// Nothing has happened yet.
+    fn default() -> Tally {
+        Tally {
+            calls: [0; NAMES.len()],
+            states: [0; 3],
+            answers: [0; ANSWERS.len()],
+            refusals: [0; REFUSALS],
+            numbers: 0,
+            tried: 0,
+            sound: 0,
+            broken: [0; RULES.len()],
+            alone: [0; RULES.len()],
+        }
+    }
 }
 
 impl Tally {
@@ -92,16 +113,28 @@ impl Tally {
         (1..).zip(self.refusals).filter(|(number, _)| Refusal::numbered(*number).is_some())
     }
 
+    /// The answers that never occurred; a fresh start is the beginning of every stream.
+    pub fn missing_answers(&self) -> Vec<String> {
+        let answers = ANSWERS.iter().zip(self.answers).filter(|(_, count)| *count == 0);
+        answers.map(|(word, _)| word.to_string()).filter(|word| word != "started").collect()
+    }
+
     /// What should have occurred and never did.
     pub fn missing(&self) -> Vec<String> {
         let rules = RULES.iter().zip(self.alone).filter(|(_, count)| *count == 0);
-        let answers = ANSWERS.iter().zip(self.answers).filter(|(_, count)| *count == 0);
         let refusals = self.refusals().filter(|(_, count)| *count == 0);
         let rules = rules.map(|(rule, _)| format!("broken alone: {}", rule.words));
-        let answers = answers.map(|(word, _)| word.to_string());
         let refusals = refusals.map(|(number, _)| format!("refused {number}"));
         let numbers = (self.numbers < spots()).then(|| "each number damaged".to_string());
-        rules.chain(answers).chain(refusals).chain(numbers).collect()
+        rules.chain(self.missing_answers()).chain(refusals).chain(numbers).collect()
+    }
+
+    /// Writes the counts of a run without damage.
+    pub fn write_traffic_to(&self, out: &mut impl Write) -> io::Result<()> {
+        writeln!(out, "{} calls, each as the model has it", self.made())?;
+        line(out, "calls", NAMES.iter().zip(self.calls))?;
+        line(out, "answers", ANSWERS.iter().zip(self.answers))?;
+        line(out, "refused", self.refusals())
     }
 
     /// Writes the counts.

@@ -1,10 +1,12 @@
 //! A site read as queues of slots, on any bytes at all.
 //!
-//! A queue is read as far as its class has places, and a number that names no slot names nothing. A
-//! slot is used if its id is not 0.
+//! A queue is read as far as its class has places. A number there names a slot, or an entry of a
+//! query, or nothing. A slot is used if its id is not 0, a query open if it has a class to read.
 
 use crate::subject::Subject;
-use shpendorak::raw::{CLASSES, KEPT, MOST_OPS, Op, SLOTS, Site, Slot};
+use shpendorak::raw::{
+    CLASS_PLACES, CLASSES, KEPT, MOST_OPS, Op, QUERIES, Query, SLOTS, Site, Slot,
+};
 use std::ops::RangeInclusive;
 
 /// Whether a slot is used.
@@ -29,11 +31,11 @@ pub fn ops_and_past(slot: &Slot) -> (&[Op], &[Op]) {
 
 /// The places of a class up to its queue's length, and those past it.
 pub fn queue_and_past(site: &Site, class: usize) -> (&[u8], &[u8]) {
-    let places = &site.queue[class * SLOTS..(class + 1) * SLOTS];
-    places.split_at(usize::from(site.lens[class]).min(SLOTS))
+    let places = &site.queue[class * CLASS_PLACES..(class + 1) * CLASS_PLACES];
+    places.split_at(usize::from(site.lens[class]).min(CLASS_PLACES))
 }
 
-/// The slot numbers in a queue, head first.
+/// The places of a queue, head first.
 pub fn queue(site: &Site, class: usize) -> &[u8] {
     queue_and_past(site, class).0
 }
@@ -43,12 +45,27 @@ pub fn named(site: &Site, place: u8) -> Option<&Slot> {
     site.slots.get(usize::from(place))
 }
 
+/// The index of the query whose entry a queue place names, if it names one.
+pub fn query_at(place: u8) -> Option<usize> {
+    usize::from(place).checked_sub(SLOTS).filter(|&index| index < QUERIES)
+}
+
+/// What names an entry of the query at an index.
+pub fn entry_of(index: usize) -> u8 {
+    (SLOTS + index) as u8
+}
+
+/// Whether a query has a class still to read.
+pub fn has_to_read(query: &Query, class: usize) -> bool {
+    query.classes & (1 << class) != 0
+}
+
 /// The slots in a queue, head first.
 pub fn queued(site: &Site, class: usize) -> impl Iterator<Item = &Slot> {
     queue(site, class).iter().filter_map(|place| named(site, *place))
 }
 
-/// The head of a class, if its queue has one.
+/// The head of a class, if its queue has one that is a request.
 pub fn head(site: &Site, class: usize) -> Option<&Slot> {
     queue(site, class).first().and_then(|place| named(site, *place))
 }

@@ -1,5 +1,7 @@
 //! What a call answers, and the numbers it answers when it will not act.
 
+use crate::site::Cells;
+
 /// The record is not 64 bytes or breaks a rule.
 pub const BAD_RECORD: u8 = 3;
 /// The id offered is queued.
@@ -23,6 +25,12 @@ pub const NO_SUCH_CELL: u8 = 12;
 
 /// The id offered was confirmed under one of the last 256 numbers.
 pub const ID_KEPT: u8 = 14;
+/// The mask names no class.
+pub const EMPTY_MASK: u8 = 17;
+/// Eight queries are open.
+pub const QUERIES_OPEN: u8 = 18;
+/// 4,294,967,295 queries were begun.
+pub const QUERIES_USED_UP: u8 = 24;
 
 /// What a call answers.
 #[derive(Clone, Copy, Debug, PartialEq, Eq)]
@@ -44,6 +52,10 @@ pub enum Answer {
     ToDo { w: usize, backs: u64 },
     /// The request is queued and not confirmed; it was put back so often.
     Unconfirmed { backs: u64 },
+    /// The query was begun at a place, from 1.
+    Begun { place: u8 },
+    /// The entry of the query at a place was read: the class's 64 committed cells.
+    Read { place: u8, class: u8, cells: Cells },
     /// The call did not act.
     Refused(u8),
 }

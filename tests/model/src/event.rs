@@ -117,6 +117,7 @@ pub fn word_of(answer: &Answer) -> usize {
         Answer::Value(_) => 5,
         Answer::Refused(_) => 6,
         Answer::ToDo { .. } | Answer::Unconfirmed { .. } => unreachable!("look has no event"),
+        Answer::Begun { .. } | Answer::Read { .. } => unreachable!("a query has no event"),
     }
 }
 
@@ -134,6 +135,7 @@ pub fn line(place: u64, answer: &Answer) -> String {
         Answer::Value(cell) => cell.to_string(),
         Answer::Refused(number) => number.to_string(),
         Answer::ToDo { .. } | Answer::Unconfirmed { .. } => unreachable!("look has no event"),
+        Answer::Begun { .. } | Answer::Read { .. } => unreachable!("a query has no event"),
     };
     format!("{place} {word} {numbers}\n")
 }

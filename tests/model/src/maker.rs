@@ -4,7 +4,7 @@ use crate::craft::{self, Damage, DAMAGES, ODD_CELLS, ODD_CLASSES};
 use crate::event::{Event, CONFIRM, OFFER, READ, WORK};
 use crate::random::Random;
 use crate::record::{self, CLASSES, CLASS_AT, MAX_OPS, RECORD_BYTES};
-use crate::site::{Class, Entry, Site, KEPT};
+use crate::site::{Class, Entry, Item, Site, KEPT};
 
 /// How many ids are used where ids are few: somewhat more than are kept.
 const FEW_IDS: u32 = 320;
@@ -197,7 +197,7 @@ impl Maker {
 
     /// The id of a waiting head, if there is one.
     fn waiting_head(&mut self) -> Option<u32> {
-        let heads = self.site.classes.iter().filter_map(|class| class.queue.first());
+        let heads = self.site.classes.iter().filter_map(|class| class.queue.first()?.request());
         let waiting = heads.filter(|head| head.number.is_none());
         let ids = waiting.map(|head| head.request.id).collect();
         self.one_of(ids)
@@ -211,8 +211,8 @@ impl Maker {
     /// A confirm of the last of two or more that wait in a queue; an offer if nowhere as many do.
     pub fn confirm_last(&mut self) -> Event {
         let tails = self.site.classes.iter().filter_map(|class| class.queue.last_chunk());
-        let waiting = tails.filter(|two: &&[Entry; 2]| two.iter().all(|e| e.number.is_none()));
-        let ids = waiting.map(|[_, last]| last.request.id).collect();
+        let waiting = tails.filter(|two: &&[Item; 2]| two.iter().all(Item::is_waiting));
+        let ids = waiting.filter_map(|[_, last]| Some(last.request()?.request.id)).collect();
         match self.one_of(ids) {
             Some(id) => self.confirm_as(id, self.site.confirmations.wrapping_add(1)),
             None => self.offer(),
@@ -257,7 +257,7 @@ impl Maker {
     /// The classes with work to do.
     pub fn busy(&self) -> Vec<u8> {
         let classes = (0..).zip(&self.site.classes);
-        let works = |class: &Class| class.queue.first().is_some_and(|head| !head.is_executed());
+        let works = |class: &Class| class.queue.first().is_some_and(|head| head.to_do() > 0);
         classes.filter(|(_, class)| works(class)).map(|(number, _)| number).collect()
     }
 

@@ -1,4 +1,4 @@
-//! The site in its plainest form: a queue and two runs of cells per class, two counts, the ids last confirmed.
+//! The site in its plainest form: a queue and two runs of cells per class, three counts, the ids last confirmed.
 
 use crate::answer::*;
 use crate::record::{parse, Op, Request, CELLS, CLASSES};
@@ -8,6 +8,8 @@ use std::collections::VecDeque;
 pub const SLOTS: usize = 128;
 /// A site keeps the ids of as many of its last confirmations.
 pub const KEPT: usize = 256;
+/// So many queries may be open, at places from 1.
+pub const QUERIES: u8 = 8;
 
 /// The 64 cells of a class.
 pub type Cells = [u32; CELLS];
@@ -41,11 +43,57 @@ impl Entry {
     }
 }
 
+/// The entry of a query in the queue of a class.
+#[derive(Clone, Copy, Debug, PartialEq, Eq)]
+pub struct Reading {
+    /// The query's place, from 1.
+    pub place: u8,
+    /// How many confirmations were taken when the query began.
+    pub begun: u32,
+}
+
+/// What stands in a queue.
+#[derive(Clone, Debug, PartialEq, Eq)]
+pub enum Item {
+    /// A request.
+    Request(Entry),
+    /// The entry of a query.
+    Query(Reading),
+}
+
+impl Item {
+    /// The request, if it is one.
+    pub fn request(&self) -> Option<&Entry> {
+        match self {
+            Item::Request(entry) => Some(entry),
+            Item::Query(_) => None,
+        }
+    }
+
+    /// The entry of a query, if it is one.
+    pub fn query(&self) -> Option<&Reading> {
+        match self {
+            Item::Request(_) => None,
+            Item::Query(reading) => Some(reading),
+        }
+    }
+
+    /// Whether it is a request that waits for its number.
+    pub fn is_waiting(&self) -> bool {
+        self.request().is_some_and(|entry| entry.number.is_none())
+    }
+
+    /// The work calls that it still takes.
+    pub fn to_do(&self) -> usize {
+        self.request().map_or(1, Entry::to_do)
+    }
+}
+
 /// One class: its queue, head first, and its cells.
 #[derive(Clone, Debug, PartialEq, Eq)]
 pub struct Class {
-    /// The queued requests, head first.
-    pub queue: Vec<Entry>,
+    /// The queued requests and the entries of queries, head first.
+    pub queue: Vec<Item>,
     /// The committed cells.
     pub committed: Cells,
     /// The working cells.
@@ -61,16 +109,18 @@ pub struct Site {
     pub confirmations: u32,
     /// How many requests committed.
     pub commits: u32,
+    /// How many queries were begun.
+    pub queries: u32,
     /// The ids of the last confirmations, that of the latest number last.
     pub kept: VecDeque<u32>,
 }
 
 impl Site {
-    /// A site with nothing queued, both counts 0 and all cells 0.
+    /// A site with nothing queued, all counts 0 and all cells 0.
     pub fn fresh() -> Site {
         let class = Class { queue: Vec::new(), committed: [0; CELLS], working: [0; CELLS] };
         let kept = VecDeque::new();
-        Site { classes: vec![class; CLASSES], confirmations: 0, commits: 0, kept }
+        Site { classes: vec![class; CLASSES], confirmations: 0, commits: 0, queries: 0, kept }
     }
 
     /// Offers a record: it joins the end of its class queue in the lowest free slot.
@@ -89,7 +139,8 @@ impl Site {
         };
         let (id, class) = (request.id, request.class);
         let queue = &mut self.classes[usize::from(class)].queue;
-        queue.push(Entry { request, slot, number: None, done: 0, mark: 0, backs: 0 });
+        let entry = Entry { request, slot, number: None, done: 0, mark: 0, backs: 0 };
+        queue.push(Item::Request(entry));
         Answer::Queued { id, class, place: queue.len(), slot }
     }
 
@@ -104,7 +155,7 @@ impl Site {
         let Some((class, at)) = self.find(id) else {
             return Answer::Refused(ID_NOT_QUEUED);
         };
-        let entry = &mut self.classes[class].queue[at];
+        let entry = self.classes[class].request_at(at);
         if entry.number.is_some() {
             return Answer::Refused(CONFIRMED_ALREADY);
         }
@@ -115,28 +166,66 @@ impl Site {
         if commits_now {
             return self.commit(class, number);
         }
-        let put_back = self.classes[class].put_waiting_head_back_for(at);
+        let put_back = if at == 0 { 0 } else { self.classes[class].put_waiting_head_back() };
         let at = self.classes[class].move_before_waiting(at);
         Answer::Waiting { id, w: self.classes[class].to_do_up_to(at), put_back }
     }
 
-    /// The head of a class does its next operation.
+    /// The head of a class does its next operation; the entry of a query is read and taken away.
     pub fn work(&mut self, class: u8) -> Answer {
+        let number = class;
         let class = usize::from(class);
         if class >= CLASSES {
             return Answer::Refused(NO_SUCH_CLASS);
         }
-        if self.classes[class].queue.first().is_none_or(Entry::is_executed) {
-            return Answer::Refused(NOTHING_TO_DO);
+        let queue = &mut self.classes[class].queue;
+        match queue.first() {
+            None => return Answer::Refused(NOTHING_TO_DO),
+            Some(Item::Request(head)) if head.is_executed() => {
+                return Answer::Refused(NOTHING_TO_DO);
+            }
+            Some(&Item::Query(Reading { place, .. })) => {
+                queue.remove(0);
+                let cells = self.classes[class].committed;
+                return Answer::Read { place, class: number, cells };
+            }
+            Some(Item::Request(_)) => {}
         }
         self.classes[class].step();
-        let head = &self.classes[class].queue[0];
+        let head = self.classes[class].request_at(0);
         let (id, done) = (head.request.id, head.done);
         match head.number {
             _ if !head.is_executed() => Answer::Stepped { id, done },
             Some(number) => self.commit(class, number),
             None => Answer::Executed { id },
         }
+    }
+
+    /// Begins a query over the classes whose bits are set: each gets an entry after the confirmed
+    /// and before the waiting, and a waiting head is put back.
+    pub fn query(&mut self, mask: u16) -> Answer {
+        if mask == 0 {
+            return Answer::Refused(EMPTY_MASK);
+        }
+        let Some(place) = (1..=QUERIES).find(|&place| !self.is_open(place)) else {
+            return Answer::Refused(QUERIES_OPEN);
+        };
+        if self.queries == u32::MAX {
+            return Answer::Refused(QUERIES_USED_UP);
+        }
+        self.queries += 1;
+        let entry = Reading { place, begun: self.confirmations };
+        for (_, class) in (0..).zip(&mut self.classes).filter(|(c, _)| mask & (1 << c) != 0) {
+            class.put_waiting_head_back();
+            let to = class.first_waiting();
+            class.queue.insert(to, Item::Query(entry));
+        }
+        Answer::Begun { place }
+    }
+
+    /// Whether the query at a place is open: an entry of it is still to be read.
+    pub fn is_open(&self, place: u8) -> bool {
+        self.readings().any(|reading| reading.place == place)
     }
 
     /// Answers a committed cell.
@@ -156,7 +245,8 @@ impl Site {
             return Answer::Refused(ID_NOT_QUEUED);
         };
         let class = &self.classes[class];
-        let Entry { number, backs, .. } = class.queue[at];
+        let entry = class.queue[at].request().expect("a request was found");
+        let Entry { number, backs, .. } = *entry;
         match number {
             Some(_) => Answer::ToDo { w: class.to_do_up_to(at), backs },
             None => Answer::Unconfirmed { backs },
@@ -165,18 +255,24 @@ impl Site {
 
     /// All queued requests, class by class, head first.
     pub fn entries(&self) -> impl Iterator<Item = &Entry> {
-        self.classes.iter().flat_map(|class| &class.queue)
+        self.classes.iter().flat_map(|class| class.queue.iter().filter_map(Item::request))
+    }
+
+    /// All entries of queries, class by class, head first.
+    pub fn readings(&self) -> impl Iterator<Item = &Reading> {
+        self.classes.iter().flat_map(|class| class.queue.iter().filter_map(Item::query))
     }
 
     /// How many requests are queued.
     pub fn queued(&self) -> usize {
-        self.classes.iter().map(|class| class.queue.len()).sum()
+        self.entries().count()
     }
 
     /// The class and queue index of a queued id.
     pub fn find(&self, id: u32) -> Option<(usize, usize)> {
         self.classes.iter().enumerate().find_map(|(number, class)| {
-            let at = class.queue.iter().position(|entry| entry.request.id == id)?;
+            let mut requests = class.queue.iter().map(Item::request);
+            let at = requests.position(|entry| entry.is_some_and(|e| e.request.id == id))?;
             Some((number, at))
         })
     }
@@ -201,7 +297,8 @@ impl Site {
     /// The head of a class commits under its number.
     fn commit(&mut self, class: usize, number: u32) -> Answer {
         let class = &mut self.classes[class];
-        let head = class.queue.remove(0);
+        let head = class.request_at(0).clone();
+        class.queue.remove(0);
         class.committed = class.working;
         self.commits += 1;
         let Entry { request, slot, mark, backs, .. } = head;
@@ -210,42 +307,56 @@ impl Site {
 }
 
 impl Class {
-    /// The head does its next operation on the working cells.
-    fn step(&mut self) {
-        let head = &mut self.queue[0];
-        let op = head.request.ops[head.done];
-        head.done += 1;
-        if head.mark == 0 && !carry_out(op, &mut self.working) {
-            head.mark = head.done;
-            self.working = self.committed;
+    /// The request at this index of the queue.
+    pub fn request_at(&mut self, at: usize) -> &mut Entry {
+        match &mut self.queue[at] {
+            Item::Request(entry) => entry,
+            Item::Query(_) => panic!("the entry of a query is no request"),
         }
     }
 
-    /// Puts the head back if it is waiting and not the request at this index; its id or 0.
-    fn put_waiting_head_back_for(&mut self, at: usize) -> u32 {
-        let head = &mut self.queue[0];
-        if at == 0 || head.number.is_some() {
+    /// The head does its next operation on the working cells.
+    fn step(&mut self) {
+        let mut working = self.working;
+        let head = self.request_at(0);
+        let op = head.request.ops[head.done];
+        head.done += 1;
+        if head.mark == 0 && !carry_out(op, &mut working) {
+            head.mark = head.done;
+            working = self.committed;
+        }
+        self.working = working;
+    }
+
+    /// Puts the head back if it waits; its id or 0.
+    fn put_waiting_head_back(&mut self) -> u32 {
+        if !self.queue.first().is_some_and(Item::is_waiting) {
             return 0;
         }
+        self.working = self.committed;
+        let head = self.request_at(0);
         head.done = 0;
         head.mark = 0;
         head.backs += 1;
-        self.working = self.committed;
         head.request.id
     }
 
-    /// Moves an entry to directly before the first waiting one; its new index.
+    /// Where the first waiting request stands; the queue's length where none waits.
+    fn first_waiting(&self) -> usize {
+        self.queue.iter().position(Item::is_waiting).unwrap_or(self.queue.len())
+    }
+
+    /// Moves a request to directly before the first waiting one; its new index.
     fn move_before_waiting(&mut self, at: usize) -> usize {
         let entry = self.queue.remove(at);
-        let first_waiting = self.queue.iter().position(|other| other.number.is_none());
-        let to = first_waiting.unwrap_or(self.queue.len());
+        let to = self.first_waiting();
         self.queue.insert(to, entry);
         to
     }
 
-    /// The operations still to do by the entry at this index and by all before it.
+    /// The work calls still to do by what stands at this index and by all before it.
     fn to_do_up_to(&self, at: usize) -> usize {
-        self.queue[..=at].iter().map(Entry::to_do).sum()
+        self.queue[..=at].iter().map(Item::to_do).sum()
     }
 }
 

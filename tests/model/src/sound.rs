@@ -1,7 +1,7 @@
 //! The sound rules, checked on the model by means of their own.
 
 use crate::record::{Op, CELLS, CLASSES, MAX_OPS};
-use crate::site::{Cells, Class, Entry, Site, KEPT, SLOTS};
+use crate::site::{Cells, Class, Entry, Item, Reading, Site, KEPT, QUERIES, SLOTS};
 use std::collections::HashSet;
 
 /// The last class.
@@ -15,19 +15,26 @@ const SPAN: u64 = 1 << 32;
 type Rule = (fn(&Site) -> bool, &'static str);
 
 /// The sound rules; a later one may count on those before it.
-const RULES: [Rule; 21] = [
+const RULES: [Rule; 25] = [
     (|site| site.classes.len() == CLASSES, "there are 16 classes"),
     (|site| site.entries().all(is_valid), "each record is valid"),
-    (|site| site.classes.iter().all(short_enough), "no queue is longer than 128"),
+    (|site| site.classes.iter().all(short_enough), "no queue is longer than 136"),
     (Site::slots_stand_once, "every used slot stands exactly once"),
     (Site::stand_in_own_class, "a slot stands in the queue of its class"),
     (|site| differ(site.entries().map(|entry| entry.request.id)), "ids differ"),
     (|site| site.classes.iter().all(confirmed_first), "the confirmed stand before the waiting"),
     (|site| site.classes.iter().all(numbers_rise), "confirmed numbers rise in a queue"),
+    (|site| site.readings().all(placed), "an entry has a place from 1 to 8"),
+    (|site| site.classes.iter().all(one_entry_each), "a query has one entry at most in a queue"),
+    (Site::queries_began_once, "a query began at one count, not above the present one"),
+    (|site| site.classes.iter().all(entries_in_order), "entries stand by their count"),
     (|site| differ(site.numbers()), "confirmed numbers differ over the whole site"),
     (Site::numbers_within_count, "confirmed numbers lie between 1 and the count"),
     (Site::counts_agree, "confirmations are commits plus confirmed requests queued"),
-    (Site::backs_within_count, "none was put back more often than there were confirmations"),
+    (
+        Site::backs_within_count,
+        "none was put back more often than there were confirmations and queries",
+    ),
     (|site| site.entries().all(done_within_ops), "none has more done than operations"),
     (|site| site.classes.iter().all(only_head_active), "only a head has anything done"),
     (|site| site.classes.iter().all(confirmed_head_open), "a confirmed head is not executed"),
@@ -64,7 +71,7 @@ impl Site {
     /// Each request stands in the queue of the class it names.
     fn stand_in_own_class(&self) -> bool {
         let mut queues = (0..).zip(&self.classes);
-        queues.all(|(number, class)| class.queue.iter().all(|e| e.request.class == number))
+        queues.all(|(number, class)| requests(class).all(|e| e.request.class == number))
     }
 
     /// Each definitive number is between 1 and the count of confirmations.
@@ -78,9 +85,19 @@ impl Site {
         u64::from(self.confirmations) == total
     }
 
-    /// No request was put back more often than there were confirmations.
+    /// No request was put back more often than there were confirmations and queries.
     fn backs_within_count(&self) -> bool {
-        self.entries().all(|entry| entry.backs <= self.confirmations.into())
+        let most = u64::from(self.confirmations) + u64::from(self.queries);
+        self.entries().all(|entry| entry.backs <= most)
+    }
+
+    /// The entries of a query agree in the count at its beginning, which is not above the present.
+    fn queries_began_once(&self) -> bool {
+        let one = |reading: &Reading| {
+            let mut same = self.readings().filter(|other| other.place == reading.place);
+            same.all(|other| other.begun == reading.begun)
+        };
+        self.readings().all(|reading| reading.begun <= self.confirmations && one(reading))
     }
 
     /// As many ids are kept as numbers were given, at most 256.
@@ -97,9 +114,47 @@ impl Site {
     }
 }
 
-/// Whether a queue is at most 128 long.
+/// Whether a queue is at most 136 long: 128 requests and an entry of each of 8 queries.
 fn short_enough(class: &Class) -> bool {
-    class.queue.len() <= SLOTS
+    class.queue.len() <= SLOTS + usize::from(QUERIES)
+}
+
+/// The requests of a queue, head first.
+fn requests(class: &Class) -> impl Iterator<Item = &Entry> {
+    class.queue.iter().filter_map(Item::request)
+}
+
+/// The head, if it is a request.
+fn head(class: &Class) -> Option<&Entry> {
+    class.queue.first().and_then(Item::request)
+}
+
+/// Whether the entry of a query has one of the places 1 to 8.
+fn placed(reading: &Reading) -> bool {
+    (1..=QUERIES).contains(&reading.place)
+}
+
+/// Whether no query has two entries in a queue.
+fn one_entry_each(class: &Class) -> bool {
+    differ(class.queue.iter().filter_map(Item::query).map(|reading| reading.place.into()))
+}
+
+/// Whether the entries of queries stand by the count at their beginning: in its order, each behind
+/// every number up to it and before every number above it, and before the waiting.
+fn entries_in_order(class: &Class) -> bool {
+    let readings = class.queue.iter().filter_map(Item::query);
+    if !readings.is_sorted_by_key(|reading| reading.begun) {
+        return false;
+    }
+    let queries = class.queue.iter().enumerate().filter_map(|(at, item)| Some((at, item.query()?)));
+    queries.into_iter().all(|(at, reading)| {
+        let numbers = |part: &[Item]| -> Vec<Option<u32>> {
+            part.iter().filter_map(Item::request).map(|entry| entry.number).collect()
+        };
+        let (before, behind) = (numbers(&class.queue[..at]), numbers(&class.queue[at..]));
+        before.iter().all(|number| number.is_some_and(|number| number <= reading.begun))
+            && behind.iter().all(|number| number.is_none_or(|number| number > reading.begun))
+    })
 }
 
 /// Whether a request keeps every rule of the record.
@@ -126,12 +181,12 @@ fn differ(mut values: impl Iterator<Item = u32>) -> bool {
 
 /// Whether no waiting request stands before a confirmed one.
 fn confirmed_first(class: &Class) -> bool {
-    class.queue.windows(2).all(|pair| pair[0].number.is_some() || pair[1].number.is_none())
+    requests(class).is_sorted_by_key(|entry| entry.number.is_none())
 }
 
 /// Whether the confirmed numbers of a queue rise from head to end.
 fn numbers_rise(class: &Class) -> bool {
-    let numbers: Vec<u32> = class.queue.iter().filter_map(|entry| entry.number).collect();
+    let numbers: Vec<u32> = requests(class).filter_map(|entry| entry.number).collect();
     numbers.windows(2).all(|pair| pair[0] < pair[1])
 }
 
@@ -142,17 +197,18 @@ fn done_within_ops(entry: &Entry) -> bool {
 
 /// Whether nothing but the head has anything done or is declined.
 fn only_head_active(class: &Class) -> bool {
-    class.queue.iter().skip(1).all(|entry| entry.done == 0 && entry.mark == 0)
+    let behind = class.queue.iter().skip(1).filter_map(Item::request);
+    behind.into_iter().all(|entry| entry.done == 0 && entry.mark == 0)
 }
 
 /// Whether a confirmed head has operations left.
 fn confirmed_head_open(class: &Class) -> bool {
-    class.queue.first().is_none_or(|head| head.number.is_none() || head.to_do() > 0)
+    head(class).is_none_or(|head| head.number.is_none() || head.to_do() > 0)
 }
 
 /// Whether the head's mark is the place of the first of its done operations that declined, or 0.
 fn mark_is_right(class: &Class) -> bool {
-    class.queue.first().is_none_or(|head| {
+    head(class).is_none_or(|head| {
         let declines =
             |&count: &usize| run_ops(&class.committed, &head.request.ops[..count]).is_none();
         head.mark == (1..=head.done).find(declines).unwrap_or(0)
@@ -161,7 +217,7 @@ fn mark_is_right(class: &Class) -> bool {
 
 /// Whether the working cells are the committed ones after the head's done operations.
 fn working_is_right(class: &Class) -> bool {
-    let done = class.queue.first().map_or(&[][..], |head| &head.request.ops[..head.done]);
+    let done = head(class).map_or(&[][..], |head| &head.request.ops[..head.done]);
     class.working == run_ops(&class.committed, done).unwrap_or(class.committed)
 }
 

@@ -24,6 +24,7 @@ impl Takes for Archive {
             Call::Work { class } => site.work(committed, working, class),
             Call::Read { class, cell } => site.read(committed, working, class, cell),
             Call::Look { id } => site.look(committed, working, id),
+            Call::Query { mask } => site.query(committed, working, mask),
         }
     }
 

@@ -24,6 +24,8 @@ pub enum Call {
     Read { class: u64, cell: u64 },
     /// Looks how far an id is.
     Look { id: u64 },
+    /// Begins a query over the classes of a mask.
+    Query { mask: u16 },
 }
 
 impl Call {

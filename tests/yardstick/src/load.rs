@@ -3,9 +3,12 @@
 use crate::call::Call;
 use model::event::Event;
 use model::maker::{Maker, Weights};
+use model::record::CLASSES;
 
 /// Out of a hundred calls, how many look.
 const LOOKS: usize = 8;
+/// Out of a hundred calls, how many begin a query; now and then over no class.
+const QUERIES: usize = 2;
 /// Out of a hundred looks, how many are for an id that is not queued.
 const LOOKS_IN_VAIN: usize = 10;
 /// Out of a hundred offers, how many bring a broken record or a queued id.
@@ -88,6 +91,9 @@ impl Traffic {
         if random.chance(LOOKS) {
             return Some(self.look());
         }
+        if random.chance(QUERIES) {
+            return Some(self.query());
+        }
         if random.chance(ODD_CALLS) {
             let odd = self.maker.odd();
             return self.done(odd);
@@ -117,6 +123,15 @@ impl Traffic {
         Call::of_event(&event)
     }
 
+    /// A query over some classes.
+    fn query(&mut self) -> Call {
+        let random = &mut self.maker.random;
+        let (one, other) = (1 << random.below(CLASSES), 1 << random.below(CLASSES));
+        let mask = random.pick(&[one, one | other, one | other, one ^ other]);
+        self.maker.site.query(mask);
+        Call::Query { mask }
+    }
+
     /// A look at a queued id, or now and then at any.
     fn look(&mut self) -> Call {
         let ids: Vec<u32> = self.maker.site.entries().map(|entry| entry.request.id).collect();
@@ -129,7 +144,7 @@ impl Traffic {
 }
 
 /// How many calls of each kind a script has, by name.
-pub fn kinds(calls: &[Call]) -> [(&'static str, usize); 5] {
+pub fn kinds(calls: &[Call]) -> [(&'static str, usize); 6] {
     let count = |is: fn(&Call) -> bool| calls.iter().filter(|call| is(call)).count();
     [
         ("offers", count(|call| matches!(call, Call::Offer(_)))),
@@ -137,5 +152,6 @@ pub fn kinds(calls: &[Call]) -> [(&'static str, usize); 5] {
         ("works", count(|call| matches!(call, Call::Work { .. }))),
         ("reads", count(|call| matches!(call, Call::Read { .. }))),
         ("looks", count(|call| matches!(call, Call::Look { .. }))),
+        ("queries", count(|call| matches!(call, Call::Query { .. }))),
     ]
 }

@@ -9,7 +9,7 @@ use crate::raw::*;
 use cells::{carry, of_class};
 use model::record::CELLS;
 use shpendorak::{Answer, Refusal};
-use sound::{queue_of, sound};
+use sound::{query_at, queue_of, sound};
 
 /// The slot that is free: all zero.
 pub const FREE: Slot = Slot {
@@ -39,6 +39,8 @@ impl Takes for Plain {
             confirmations: 0,
             commits: 0,
             kept: [0; KEPT],
+            queries: [Query::default(); QUERIES],
+            begun: 0,
         };
         Plain(Held { site, committed: vec![0; RUN], working: vec![0; RUN] })
     }
@@ -52,6 +54,7 @@ impl Takes for Plain {
             Call::Work { class } => work(site, committed, working, class),
             Call::Read { class, cell } => read(site, committed, working, class, cell),
             Call::Look { id } => look(site, committed, working, id),
+            Call::Query { mask } => query(site, committed, working, mask),
         }
     }
 
@@ -84,7 +87,7 @@ pub fn offer(site: &mut Site, committed: &[u32], working: &[u32], bytes: &[u8]) 
     site.slots[usize::from(slot)] = taken;
     set_used(site, slot, true);
     let len = &mut site.lens[usize::from(class)];
-    site.queue[SLOTS * usize::from(class) + usize::from(*len)] = slot;
+    site.queue[CLASS_PLACES * usize::from(class) + usize::from(*len)] = slot;
     *len += 1;
     let (class, place, slot) = (class.into(), (*len).into(), slot.into());
     Ok(Answer::Queued { id, class, place, slot })
@@ -112,31 +115,91 @@ pub fn confirm(
         return Err(Refusal::ConfirmedAlready);
     }
     let class = usize::from(class);
-    let head = usize::from(site.queue[SLOTS * class]);
+    let head = usize::from(site.queue[CLASS_PLACES * class]);
     site.confirmations = next;
     site.slots[at].number = next;
     site.kept[next as usize % KEPT] = id;
     if head == at && done == count {
         return Ok(commit(site, committed, working, class));
     }
-    let mut put_back = 0;
-    if head != at && site.slots[head].number == 0 {
-        put_back = site.slots[head].id;
-        of_class(working, class).copy_from_slice(&committed[CELLS * class..][..CELLS]);
-        site.slots[head].done = 0;
-        site.slots[head].mark = 0;
-        site.slots[head].backs += 1;
-    }
+    let put_back =
+        if head == at { 0 } else { put_waiting_head_back(site, committed, working, class) };
     move_forward(site, class, at);
     Ok(Answer::Waiting { id, w: to_do(site, class, at), put_back })
+}
+
+/// Puts the head of a class back if it waits; its id or 0.
+fn put_waiting_head_back(
+    site: &mut Site,
+    committed: &[u32],
+    working: &mut [u32],
+    class: usize,
+) -> u32 {
+    let head = queue_of(site, class).first().copied().filter(|&place| query_at(place).is_none());
+    let Some(slot) = head.map(|place| &mut site.slots[usize::from(place)]) else {
+        return 0;
+    };
+    if slot.number != 0 {
+        return 0;
+    }
+    of_class(working, class).copy_from_slice(&committed[CELLS * class..][..CELLS]);
+    slot.done = 0;
+    slot.mark = 0;
+    slot.backs += 1;
+    slot.id
+}
+
+/// Begins a query over the classes of a mask.
+pub fn query(site: &mut Site, committed: &[u32], working: &mut [u32], mask: u16) -> Answered {
+    door(site, committed, working)?;
+    if mask == 0 {
+        return Err(Refusal::EmptyMask);
+    }
+    let free = site.queries.iter().position(|query| query.classes == 0);
+    let index = free.ok_or(Refusal::QueriesOpen)?;
+    site.begun = site.begun.checked_add(1).ok_or(Refusal::QueriesUsedUp)?;
+    site.queries[index] = Query { classes: mask, begun: site.confirmations };
+    for class in (0..CLASSES).filter(|class| mask >> class & 1 == 1) {
+        put_waiting_head_back(site, committed, working, class);
+        let to = first_waiting(site, class);
+        let len = usize::from(site.lens[class]);
+        let queue = &mut site.queue[CLASS_PLACES * class..][..=len];
+        queue.copy_within(to..len, to + 1);
+        queue[to] = (SLOTS + index) as u8;
+        site.lens[class] += 1;
+    }
+    Ok(Answer::Begun { place: index as u32 + 1 })
+}
+
+/// Where the first waiting request of a class stands; the queue's length where none waits.
+fn first_waiting(site: &Site, class: usize) -> usize {
+    let queue = queue_of(site, class);
+    let waits =
+        |&place: &u8| query_at(place).is_none() && site.slots[usize::from(place)].number == 0;
+    queue.iter().position(waits).unwrap_or(queue.len())
+}
+
+/// The entry of a query at the head of a class is read and taken away.
+fn read_entry(site: &mut Site, committed: &[u32], class: usize, index: usize) -> Answer {
+    take_head(site, class);
+    let query = &mut site.queries[index];
+    query.classes &= !(1 << class);
+    if query.classes == 0 {
+        *query = Query::default();
+    }
+    let cells = committed[CELLS * class..][..CELLS].try_into().expect("a class has 64 cells");
+    Answer::Entry { place: index as u32 + 1, class: class as u32, cells }
 }
 
 /// The head of a class does its next operation.
 pub fn work(site: &mut Site, committed: &mut [u32], working: &mut [u32], class: u64) -> Answered {
     door(site, committed, working)?;
     let class = usize::try_from(class).ok().filter(|&c| c < CLASSES).ok_or(Refusal::NoSuchClass)?;
-    let at = usize::from(*queue_of(site, class).first().ok_or(Refusal::NothingToDo)?);
-    let head = &mut site.slots[at];
+    let place = *queue_of(site, class).first().ok_or(Refusal::NothingToDo)?;
+    if let Some(index) = query_at(place) {
+        return Ok(read_entry(site, committed, class, index));
+    }
+    let head = &mut site.slots[usize::from(place)];
     if head.done == head.count {
         return Err(Refusal::NothingToDo);
     }
@@ -192,11 +255,14 @@ fn set_used(site: &mut Site, slot: u8, used: bool) {
     *word = if used { *word | bit } else { *word & !bit };
 }
 
-/// The operations still to do by a slot and by all before it in the queue of its class.
+/// The work calls still to do by a slot and by all before it in the queue of its class.
 fn to_do(site: &Site, class: usize, at: usize) -> u32 {
     let mut w = 0;
     for &place in queue_of(site, class) {
-        let slot = &site.slots[usize::from(place)];
+        let Some(slot) = site.slots.get(usize::from(place)) else {
+            w += 1;
+            continue;
+        };
         w += u32::from(slot.count - slot.done);
         if usize::from(place) == at {
             break;
@@ -207,9 +273,11 @@ fn to_do(site: &Site, class: usize, at: usize) -> u32 {
 
 /// Moves a slot that was just confirmed to directly before the first waiting one of its class.
 fn move_forward(site: &mut Site, class: usize, at: usize) {
-    let queue = &mut site.queue[SLOTS * class..][..usize::from(site.lens[class])];
-    let waits =
-        |&place: &u8| usize::from(place) == at || site.slots[usize::from(place)].number == 0;
+    let queue = &mut site.queue[CLASS_PLACES * class..][..usize::from(site.lens[class])];
+    let waits = |&place: &u8| {
+        usize::from(place) == at
+            || query_at(place).is_none() && site.slots[usize::from(place)].number == 0
+    };
     let to = queue.iter().position(waits);
     let from = queue.iter().position(|&place| usize::from(place) == at);
     if let (Some(to), Some(from)) = (to, from) {
@@ -217,14 +285,20 @@ fn move_forward(site: &mut Site, class: usize, at: usize) {
     }
 }
 
-/// The head of a class commits: its cells, its place, its slot and the count.
-fn commit(site: &mut Site, committed: &mut [u32], working: &[u32], class: usize) -> Answer {
-    of_class(committed, class).copy_from_slice(&working[CELLS * class..][..CELLS]);
-    let queue = &mut site.queue[SLOTS * class..][..usize::from(site.lens[class])];
-    let slot = queue[0];
+/// Takes the head of a class out of its queue; what named it there.
+fn take_head(site: &mut Site, class: usize) -> u8 {
+    let queue = &mut site.queue[CLASS_PLACES * class..][..usize::from(site.lens[class])];
+    let head = queue[0];
     queue[0] = 0;
     queue.rotate_left(1);
     site.lens[class] -= 1;
+    head
+}
+
+/// The head of a class commits: its cells, its place, its slot and the count.
+fn commit(site: &mut Site, committed: &mut [u32], working: &[u32], class: usize) -> Answer {
+    of_class(committed, class).copy_from_slice(&working[CELLS * class..][..CELLS]);
+    let slot = take_head(site, class);
     let head = std::mem::replace(&mut site.slots[usize::from(slot)], FREE);
     set_used(site, slot, false);
     site.commits += 1;

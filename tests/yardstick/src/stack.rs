@@ -3,8 +3,9 @@
 //! Counted is every byte below the return address of the call, down to the lowest word that was written: the call's own frame and those of all
 //! that it calls. Not counted are the return address itself, and above it the caller's frame with the site that it hands over by value.
 
-use crate::call::{Call, Held};
+use crate::call::{Answered, Call, Held};
 use crate::raw::*;
+use shpendorak::answered;
 use std::arch::{asm, naked_asm};
 use std::mem::{MaybeUninit, transmute};
 
@@ -26,8 +27,15 @@ type Fresh = unsafe extern "C" fn(*mut u32, usize, *mut u32, usize, Out) -> Back
 /// The type of offer.
 type Offer =
     unsafe extern "C" fn(Site, *mut u32, usize, *mut u32, usize, *const u8, usize, Out) -> Back;
-/// The type of work and look.
+/// The type of look.
 type OneNumber = unsafe extern "C" fn(Site, *mut u32, usize, *mut u32, usize, u64, Out) -> Back;
+/// The type of work.
+type Work =
+    unsafe extern "C" fn(Site, *mut u32, usize, *mut u32, usize, u64, *mut Entry, Out) -> Back;
+/// The type of query.
+type OneMask = unsafe extern "C" fn(Site, *mut u32, usize, *mut u32, usize, u16, Out) -> Back;
+/// The cells of an entry that is read.
+type Entry = [u32; CELLS];
 /// The type of confirm and read.
 type TwoNumbers =
     unsafe extern "C" fn(Site, *mut u32, usize, *mut u32, usize, u64, u64, Out) -> Back;
@@ -42,11 +50,13 @@ struct Entries {
     /// Confirms an id under a number.
     confirm: TwoNumbers,
     /// Has the head of a class do its next operation.
-    work: OneNumber,
+    work: Work,
     /// Reads a committed cell.
     read: TwoNumbers,
     /// Looks how far an id is.
     look: OneNumber,
+    /// Begins a query.
+    query: OneMask,
 }
 
 impl Entries {
@@ -58,9 +68,10 @@ impl Entries {
                 fresh: transmute::<*const (), Fresh>(shpendorak_fresh as *const ()),
                 offer: transmute::<*const (), Offer>(shpendorak_offer as *const ()),
                 confirm: transmute::<*const (), TwoNumbers>(shpendorak_confirm as *const ()),
-                work: transmute::<*const (), OneNumber>(shpendorak_work as *const ()),
+                work: transmute::<*const (), Work>(shpendorak_work as *const ()),
                 read: transmute::<*const (), TwoNumbers>(shpendorak_read as *const ()),
                 look: transmute::<*const (), OneNumber>(shpendorak_look as *const ()),
+                query: transmute::<*const (), OneMask>(shpendorak_query as *const ()),
             }
         }
     }
@@ -73,9 +84,10 @@ impl Entries {
                 fresh: transmute::<*const (), Fresh>(stub as *const ()),
                 offer: transmute::<*const (), Offer>(stub as *const ()),
                 confirm: transmute::<*const (), TwoNumbers>(stub as *const ()),
-                work: transmute::<*const (), OneNumber>(stub as *const ()),
+                work: transmute::<*const (), Work>(stub as *const ()),
                 read: transmute::<*const (), TwoNumbers>(stub as *const ()),
                 look: transmute::<*const (), OneNumber>(stub as *const ()),
+                query: transmute::<*const (), OneMask>(stub as *const ()),
             }
         }
     }
@@ -106,6 +118,8 @@ struct Job<'a> {
     held: &'a mut Held,
     /// The site that comes back.
     back: Back,
+    /// The cells of an entry that is read.
+    entry: Entry,
     /// The answer that is written.
     answer: Numbers,
 }
@@ -114,7 +128,7 @@ struct Job<'a> {
 unsafe extern "C" fn make(job: *mut Job) {
     // Sound: the job is lent for this call alone, and its runs, record and answer with their lengths.
     unsafe {
-        let Job { entries, asked, held, back, answer } = &mut *job;
+        let Job { entries, asked, held, back, entry, answer } = &mut *job;
         let Held { site, committed, working } = &mut **held;
         let (c, c_len) = (committed.as_mut_ptr(), committed.len());
         let (w, w_len) = (working.as_mut_ptr(), working.len());
@@ -128,12 +142,15 @@ unsafe extern "C" fn make(job: *mut Job) {
                 (entries.confirm)(*site, c, c_len, w, w_len, id, number, answer)
             }
             Asked::Call(Call::Work { class }) => {
-                (entries.work)(*site, c, c_len, w, w_len, class, answer)
+                (entries.work)(*site, c, c_len, w, w_len, class, entry, answer)
             }
             Asked::Call(Call::Read { class, cell }) => {
                 (entries.read)(*site, c, c_len, w, w_len, class, cell, answer)
             }
             Asked::Call(Call::Look { id }) => (entries.look)(*site, c, c_len, w, w_len, id, answer),
+            Asked::Call(Call::Query { mask }) => {
+                (entries.query)(*site, c, c_len, w, w_len, mask, answer)
+            }
         };
     }
 }
@@ -173,12 +190,12 @@ impl Default for Gauge {
 
 impl Gauge {
     /// Makes a call: its answer, and the bytes of stack that it needed. The site and cells become what it made of them.
-    pub fn take(&mut self, held: &mut Held, asked: &Asked) -> (Numbers, usize) {
+    pub fn take(&mut self, held: &mut Held, asked: &Asked) -> (Answered, usize) {
         self.turn += 1;
         let paint = PAINTS[self.turn % PAINTS.len()];
         let top = self.top();
-        let (back, answer) = (Back::uninit(), Numbers::default());
-        let mut job = Job { entries: Entries::of_stubs(), asked, held, back, answer };
+        let (back, entry, answer) = (Back::uninit(), [0; CELLS], Numbers::default());
+        let mut job = Job { entries: Entries::of_stubs(), asked, held, back, entry, answer };
         make_at(top, &mut job);
         // Sound: the stub has written a word there.
         let entered = unsafe { job.back.as_ptr().cast::<usize>().read() };
@@ -187,7 +204,7 @@ impl Gauge {
         make_at(top, &mut job);
         // Sound: each call of the archive hands back a site.
         job.held.site = unsafe { job.back.assume_init() };
-        (job.answer, entered - self.lowest_written(paint))
+        (answered(&job.answer, &job.entry), entered - self.lowest_written(paint))
     }
 
     /// The address at which the painted stack begins, downwards.

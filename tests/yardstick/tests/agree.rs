@@ -10,6 +10,8 @@ use yardstick::load::{LOADS, Script};
 use yardstick::plain::Plain;
 use yardstick::raw::*;
 
+/// The classes of the query that is begun last.
+const OPEN: u16 = 0b1100_0000_0000_0000;
 /// How many calls bring a site to the states that are spoiled.
 const LEAD: usize = 400;
 /// How many sites are spoiled by chance.
@@ -18,7 +20,7 @@ const SPOILED: usize = 30_000;
 const EVENTS: u64 = 3_000;
 
 /// One call of each kind.
-fn calls() -> [Call; 5] {
+fn calls() -> [Call; 6] {
     let record = [0; 64];
     [
         Call::Offer(record),
@@ -26,16 +28,18 @@ fn calls() -> [Call; 5] {
         Call::Work { class: 3 },
         Call::Read { class: 3, cell: 4 },
         Call::Look { id: 1 },
+        Call::Query { mask: 1 },
     ]
 }
 
-/// A site and its cells after a run at a load.
+/// A site and its cells after a run at a load and a query.
 fn held_at(load: usize, seed: u64) -> Held {
     let script = Script::new(LOADS[load], seed, LEAD);
     let mut site = Plain::fresh();
     for call in script.filling.iter().chain(&script.calls) {
         let _ = site.take(call);
     }
+    let _ = site.take(&Call::Query { mask: OPEN });
     site.0
 }
 
@@ -60,10 +64,18 @@ fn refused_untouched(held: &Held, refusal: Refusal) {
 /// Spoils a site so that it is not sound.
 type Spoil = fn(&mut Held);
 
-/// The slot of the head of the first class that has a queue.
+/// The slot of the head of the first class whose head is a request.
 fn head(site: &mut Site) -> &mut Slot {
-    let class = site.lens.iter().position(|&len| len > 0).expect("something is queued");
-    &mut site.slots[usize::from(site.queue[SLOTS * class])]
+    let headed = |&class: &usize| {
+        site.lens[class] > 0 && usize::from(site.queue[CLASS_PLACES * class]) < SLOTS
+    };
+    let class = (0..CLASSES).find(headed).expect("a request is queued");
+    &mut site.slots[usize::from(site.queue[CLASS_PLACES * class])]
+}
+
+/// An open query.
+fn open_query(site: &mut Site) -> &mut Query {
+    site.queries.iter_mut().find(|query| query.classes != 0).expect("a query is open")
 }
 
 /// The id of a waiting request.
@@ -73,7 +85,7 @@ fn waiting(site: &Site) -> u32 {
 }
 
 /// A way to break each rule of a sound site.
-const SPOILS: [(&str, Spoil); 28] = [
+const SPOILS: [(&str, Spoil); 32] = [
     ("a free slot is all zero", |held| held.site.slots[127].ops[6].amount = 1),
     ("a free slot was never put back", |held| held.site.slots[127].backs = 1),
     ("a class is below 16", |held| head(&mut held.site).class = 16),
@@ -81,12 +93,16 @@ const SPOILS: [(&str, Spoil); 28] = [
     ("a request has at most 7", |held| head(&mut held.site).count = 8),
     ("a code is 1 to 4", |held| head(&mut held.site).ops[0].code = 5),
     ("a cell is below 64", |held| head(&mut held.site).ops[0].cell = 64),
-    ("no queue is longer than 128", |held| held.site.lens[0] = 129),
+    ("no queue is longer than 136", |held| held.site.lens[0] = 137),
     ("a used slot stands in a queue", |held| held.site.lens[0] -= 1),
     ("no free slot stands in a queue", |held| held.site.queue[0] = 127),
-    ("a place is a slot", |held| held.site.queue[0] = 128),
+    ("a place is a slot or a query", |held| held.site.queue[0] = 136),
+    ("an entry belongs to an open query", |held| *open_query(&mut held.site) = Query::default()),
+    ("an open query has its entries", |held| open_query(&mut held.site).classes = u16::MAX),
+    ("no query began later than now", |held| open_query(&mut held.site).begun = u32::MAX),
+    ("a free query is all zero", |held| held.site.queries[7].begun = 1),
     ("a slot stands once", |held| held.site.queue[1] = held.site.queue[0]),
-    ("a slot stands in its class", |held| held.site.queue.swap(0, SLOTS)),
+    ("a slot stands in its class", |held| held.site.queue.swap(0, CLASS_PLACES)),
     ("places past the end are zero", |held| held.site.queue[PLACES - 1] = 1),
     ("the map agrees", |held| held.site.low ^= 1),
     ("the map agrees in its high word", |held| held.site.high ^= 1 << 63),
@@ -154,7 +170,7 @@ fn wrong_cells_are_refused_with_1() {
 fn spoil_by_chance(random: &mut Random, held: &mut Held) {
     let (byte, number) = (random.byte() % 9, random.number() % 9);
     let slot = &mut held.site.slots[random.below(SLOTS)];
-    match random.below(15) {
+    match random.below(17) {
         0 => slot.id = number,
         1 => slot.class = byte,
         2 => slot.count = byte,
@@ -168,7 +184,9 @@ fn spoil_by_chance(random: &mut Random, held: &mut Held) {
         10 => held.site.queue[random.below(PLACES)] = byte,
         11 => held.site.lens[random.below(CLASSES)] = byte,
         12 => slot.backs = held.site.confirmations.wrapping_add(number).wrapping_sub(4).into(),
-        13 => held.site.confirmations = held.site.confirmations.wrapping_add(number),
+        13 => held.site.queries[random.below(QUERIES)].classes ^= 1 << random.below(CLASSES),
+        14 => held.site.queries[random.below(QUERIES)].begun = number,
+        15 => held.site.confirmations = held.site.confirmations.wrapping_add(number),
         _ => held.working[random.below(1_024)] = number,
     }
 }

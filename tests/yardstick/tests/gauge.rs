@@ -1,6 +1,6 @@
 //! The painted stack: calls made on it answer as elsewhere, and what they need is seen.
 
-use shpendorak::{Answer, answered};
+use shpendorak::Answer;
 use yardstick::archive::Archive;
 use yardstick::call::{Call, Held, RUN, Takes};
 use yardstick::load::{LOADS, Script};
@@ -20,7 +20,7 @@ fn calls_on_the_painted_stack_answer_as_elsewhere() {
         let mut held = archive.held().clone();
         for &call in script.filling.iter().chain(&script.calls) {
             let (answer, bytes) = gauge.take(&mut held, &Asked::Call(call));
-            assert_eq!(answered(&answer), archive.take(&call), "{call:?}");
+            assert_eq!(answer, archive.take(&call), "{call:?}");
             assert!(bytes > 0 && bytes < PLENTY, "{call:?} needs {bytes} bytes");
         }
         assert!(held == archive.0);
@@ -32,7 +32,7 @@ fn fresh_on_the_painted_stack_starts_a_site() {
     let mut held: Held = Archive::fresh().0;
     held.committed.fill(7);
     let (answer, _) = Gauge::default().take(&mut held, &Asked::Fresh);
-    assert_eq!(answered(&answer), Ok(Answer::Started));
+    assert_eq!(answer, Ok(Answer::Started));
     assert_eq!(held.committed, [0; RUN]);
 }
 

@@ -27,44 +27,57 @@ loop-holds c = (search needs, below-none _)
 
 same-cells-requires : tie.Need-same-cells-requires Inv-loop μ-loop
 same-cells-requires c κs =
-    let args· = c .before .before .before .before .before .before .before .args in
-    let loop· = c .before .before .before .before .loop in
-    let pre· = c .before .before .before .before .before .before .before .pre in
-    lent-long (args· .working .now) (loop· .c) (pre· .0 .1) (omega arith) ∙ sym (lent-long (args· .committed .now) (loop· .c) (pre· .0 .0) (omega arith))
+    let c₁ = c .before .before .before .before in
+    let c₂ = c₁ .before .before .before in
+    let args· = c₂ .args in
+    let loop· = c₁ .loop in
+    let pre· = c₂ .pre in
+    lent-long (args· .working .now) (loop· .c) (pre· .0 .1) (omega arith) ∙ sym (lent-long (args· .committed .now) (loop· .c) (pre· .0 .0)
+    (omega arith))
 
 returns : tie.Need-returns Inv-loop μ-loop
 returns c =
-    let args· = c .before .before .before .before .before .before .before .before .before .args in
-    let loop· = c .before .before .before .before .before .before .loop in
-    let rule = at-empty (args· .t1) (nth (args· .t2) (loop· .c)) (loop· .c) (args· .committed .now) (args· .working .now) _ (c .before .before .before .before .if1 .taken) in
+    let c₁ = c .before .before .before .before in
+    let c₂ = c₁ .before .before in
+    let c₃ = c₂ .before .before .before in
+    let args· = c₃ .args in
+    let loop· = c₂ .loop in
+    let rule = at-empty (args· .t1) (nth (args· .t2) (loop· .c)) (loop· .c) (args· .committed .now) (args· .working .now) _ (c₁ .if1 .taken) in
     decides-false (λ h. rule (c .before .same-cells .ensures) .no (not-true _ (c .if2 .taken)) (h (loop· .c) (omega arith)))
 
 array-copy-out-v : tie.Need-array-copy-out-v Inv-loop μ-loop
-array-copy-out-v c = c .before .before .before .before .before .pre .1 (c .before .before .loop .c) (omega arith) (c .if1 .left) .0
+array-copy-out-v c = search needs
 
 mul-v : tie.Need-mul-v Inv-loop μ-loop
 mul-v c = let h = array-copy-out-v c in search needs
 
 head-ok-requires : tie.Need-head-ok-requires Inv-loop μ-loop
 head-ok-requires c κs =
-    let args· = c .before .before .before .before .before .before .before .before .args in
-    let loop· = c .before .before .before .before .before .loop in
-    let pre· = c .before .before .before .before .before .before .before .before .pre in (
+    let c₁ = c .before .before .before in
+    let c₂ = c₁ .before .before in
+    let c₃ = c₂ .before .before .before in
+    let args· = c₃ .args in
+    let loop· = c₂ .loop in
+    let pre· = c₃ .pre in (
       lent-long (args· .committed .now) (loop· .c) (pre· .0 .0) (omega arith),
       lent-long (args· .working .now) (loop· .c) (pre· .0 .1) (omega arith),
-      pre· .1 (loop· .c) (omega arith) (c .before .before .before .if1 .left) .1,
+      pre· .1 (loop· .c) (omega arith) (c₁ .if1 .left),
     )
 
 returns-2 : tie.Need-returns-2 Inv-loop μ-loop
 returns-2 c =
-    let args· = c .before .before .before .before .before .before .before .before .before .before .args in
-    let loop· = c .before .before .before .before .before .before .before .loop in
-    let rule = at-head (args· .t1) (nth (args· .t2) (loop· .c)) (loop· .c) (args· .committed .now) (args· .working .now) _ (c .before .before .before .before .before .if1 .left) in
+    let c₁ = c .before .before .before .before .before in
+    let c₂ = c₁ .before .before in
+    let c₃ = c₂ .before .before .before in
+    let args· = c₃ .args in
+    let loop· = c₂ .loop in
+    let rule = at-head (args· .t1) (nth (args· .t2) (loop· .c)) (loop· .c) (args· .committed .now) (args· .working .now) _ (c₁ .if1 .left) in
     decides-false (λ h. rule (c .before .head-ok .ensures) .no (not-true _ (c .if3 .taken)) (h (loop· .c) (omega arith)))
 
 loop-again : tie.Need-loop-again Inv-loop μ-loop
 loop-again c =
-    let args· = c .before .before .before .before .before .args in
+    let c₁ = c .before .before .before .before .before in
+    let args· = c₁ .args in
     let loop· = c .before .before .loop in
     let head = nth (args· .t2) (loop· .c) in
     let base = args· .committed .now in

@@ -27,12 +27,15 @@ loop-holds : tie.Need-loop-holds Inv-loop μ-loop
 loop-holds c = (search needs, below-none _)
 
 returns : tie.Need-returns Inv-loop μ-loop
-returns c = decides-false (λ h. decides-flags _ _ .no (not-true _ (c .if1 .taken)) (c .before .before .is-used .ensures ∙ h (c .before .before .before .before .loop .k) (omega arith)))
+returns c =
+    let c₁ = c .before .before .before .before in
+    decides-false (λ h. decides-flags _ _ .no (not-true _ (c .if1 .taken)) (c .before .before .is-used .ensures ∙ h (c₁ .loop .k) (omega arith)))
 
 loop-again : tie.Need-loop-again Inv-loop μ-loop
 loop-again c =
+    let c₁ = c .before .before .before .before in
     let flag· = sym (c .before .before .is-used .ensures) ∙ decides-flags _ _ .yes (not-false _ (c .if1 .left)) in
-    (search needs, below-more _ _ (c .before .before .before .before .loop .inv .1) flag·)
+    (search needs, below-more _ _ (c₁ .loop .inv .1) flag·)
 
 returns-2 : tie.Need-returns-2 Inv-loop μ-loop
 returns-2 c = decides-true (λ j l. c .before .loop .inv .1 j (omega arith))

@@ -11,10 +11,10 @@ use Rattle.checks.proofs.numbered.Statement.{statement}
 use Rattle.checks.proofs.numbered.Tie as tie
 
 abbrev Inv-loop : tie.InvT-loop
-Inv-loop numbers n₀ s₀ n s = (s ≤ slotCount) × (n ≤ s) × (n ≡ numbered (nth numbers) s)
+Inv-loop lines n₀ s₀ n s = (s ≤ slotCount) × (n ≤ s) × (n ≡ numbered (nth lines) s)
 
 abbrev μ-loop : tie.MeasureT-loop
-μ-loop numbers n₀ s₀ n s = slotCount - s
+μ-loop lines n₀ s₀ n s = slotCount - s
 
 loop-holds : tie.Need-loop-holds Inv-loop μ-loop
 loop-holds c = (search needs, search needs, none-numbered _)
@@ -22,7 +22,7 @@ loop-holds c = (search needs, search needs, none-numbered _)
 loop-again : tie.Need-loop-again Inv-loop μ-loop
 loop-again c =
     let if1· = c .if1 in
-    let numbers· = nth (c .before .before .before .before .args .numbers .now) in
+    let numbers· = nth (c .before .before .before .before .args .lines .now) in
     let s· = c .before .before .before .loop .s in (
       search needs,
       ⊎-elim (λ w. omega (arith, w .1)) (λ w. omega (arith, w .1)) (if1· .came),

@@ -10,7 +10,7 @@ use Rattle.host.proofs.numbers_of_fresh.Tie as tie
 started : (n : ℕ) → n ≡ 0 → (9 ∷ 0 ∷ 0 ∷ 0 ∷ 0 ∷ 0 ∷ []) ≡ toldFresh n
 started n e = rw e refl
 
-turned-away : (n : ℕ) → (n ≡ 0 → ⊥) → told (refused n) ≡ toldFresh n
+turned-away : (n : ℕ) → (n ≡ 0 → ⊥) → told 0 (refused n) ≡ toldFresh n
 turned-away zero not-zero = absurd (not-zero refl)
 turned-away (suc n) not-zero = refl
 

@@ -1,7 +1,7 @@
 -- Each case's word and numbers are those of its answer. Assumes nothing.
 use Prim.Native.Nat.{ℕ}
 use mathlib.Core.Path.{_≡_}
-use mathlib.Core.List.{List}
+use mathlib.Core.List.{List, []}
 use Rattle.site.specs.declared.Answer.{Answer}
 use Rattle.site.specs.Held.{answerOf}
 use Rattle.line.specs.Text.{lineOf}
@@ -10,7 +10,7 @@ use Rattle.line.proofs.line_of.Statement.{statement}
 use Rattle.line.proofs.line_of.Tie as tie
 
 -- the line of an answer whose case is known
-told : (place : ℕ) (a b : Answer) (t : List ℕ) → a ≡ b → t ≡ lineOf place (answerOf b) → t ≡ lineOf place (answerOf a)
+told : (place : ℕ) (a b : Answer) (t : List ℕ) → a ≡ b → t ≡ lineOf place (answerOf b []) → t ≡ lineOf place (answerOf a [])
 told place a b t e h = rw e h
 
 returns : tie.Need-returns
@@ -39,6 +39,12 @@ returns-8 c = (told _ _ _ _ (c .before .before .before .before .answer8 .given .
 
 returns-9 : tie.Need-returns-9
 returns-9 c = (told _ _ _ _ (c .before .before .before .before .answer9 .given .1) (c .whole9 .ensures .0), c .whole9 .ensures .1)
+
+returns-10 : tie.Need-returns-10
+returns-10 c = (told _ _ _ _ (c .before .before .before .before .answer10 .given .1) (c .whole10 .ensures .0), c .whole10 .ensures .1)
+
+returns-11 : tie.Need-returns-11
+returns-11 c = (told _ _ _ _ (c .before .before .before .before .answer11 .given .1) (c .whole11 .ensures .0), c .whole11 .ensures .1)
 
 pub line-of-spec : {M : Type 1} → statement M
 line-of-spec =
@@ -97,6 +103,16 @@ line-of-spec =
     (λ c. search needs)
     (λ c. search needs)
     (λ c κs. search needs)
+    (λ c. search needs)
+    (λ c. search needs)
+    (λ c. search needs)
+    (λ c. search needs)
+    (λ c κs. search needs)
+    (λ c. search needs)
+    (λ c. search needs)
+    (λ c. search needs)
+    (λ c. search needs)
+    (λ c κs. search needs)
     returns
     returns-2
     returns-3
@@ -105,4 +121,6 @@ line-of-spec =
     returns-6
     returns-7
     returns-8
-    returns-9)
+    returns-9
+    returns-10
+    returns-11)

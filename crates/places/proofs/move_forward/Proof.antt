@@ -10,7 +10,7 @@ use Rattle.places.proofs.move_forward.Tie as tie
 returns : tie.Need-returns
 returns c =
     let a = c .before .before .args in
-    let l : length (a .q .now) ≡ 2048 = search needs in
+    let l : length (a .q .now) ≡ 2176 = search needs in
     moved-class (a .q .now) (a .class) l (omega arith) (a .from) (a .to) _ (omega arith) (omega arith) (c .shift-back .ensures)
 
 pub move-forward-spec : {M : Type 1} → statement M

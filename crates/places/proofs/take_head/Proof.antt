@@ -10,7 +10,7 @@ use Rattle.places.proofs.take_head.Tie as tie
 returns : tie.Need-returns
 returns c =
     let a = c .before .before .args in
-    let l : length (a .q .now) ≡ 2048 = search needs in
+    let l : length (a .q .now) ≡ 2176 = search needs in
     short-class (a .q .now) (a .class) l (omega arith) (a .len) _ (omega arith) (omega arith) (c .close-up .ensures)
 
 pub take-head-spec : {M : Type 1} → statement M

@@ -5,7 +5,7 @@
 
 use crate::aim::{any_class, any_slot, byte_from};
 use crate::subject::Subject;
-use crate::view::{head, is_confirmed, is_head, is_used, ops_and_past, place_of, used};
+use crate::view::{head, is_confirmed, is_head, is_used, ops_and_past, place_of, queue, used};
 use model::random::Random;
 use shpendorak::raw::{ADD, CELLS, CLASSES, MOST_OPS, MOVE, NEED, Op, PUT, Site, Slot};
 
@@ -149,10 +149,10 @@ pub fn working_cells_follow(subject: &Subject) -> bool {
     })
 }
 
-/// A working cell of a class with a head, or of one without, is changed.
-fn change_working(random: &mut Random, subject: &mut Subject, has_head: bool) {
+/// A working cell of a class that a test allows is changed.
+fn change_working(random: &mut Random, subject: &mut Subject, in_class: fn(&Site, usize) -> bool) {
     let site = &subject.site;
-    if let Some(class) = any_class(random, |class| head(site, class).is_some() == has_head) {
+    if let Some(class) = any_class(random, |class| in_class(site, class)) {
         let at = class * CELLS + random.below(CELLS);
         subject.working[at] ^= 1 << random.below(u32::BITS as usize);
     }
@@ -160,18 +160,18 @@ fn change_working(random: &mut Random, subject: &mut Subject, has_head: bool) {
 
 /// A working cell of a class with a head is wrong.
 pub fn working_wrong(random: &mut Random, subject: &mut Subject) {
-    change_working(random, subject, true);
+    change_working(random, subject, |site, class| head(site, class).is_some());
 }
 
 /// Working cells equal the committed ones where the queue is empty.
 pub fn idle_cells_are_equal(subject: &Subject) -> bool {
     (0..CLASSES).all(|class| {
         let equal = cells_of(&subject.working, class) == cells_of(&subject.committed, class);
-        equal || head(&subject.site, class).is_some()
+        equal || !queue(&subject.site, class).is_empty()
     })
 }
 
 /// A working cell of a class with an empty queue is wrong.
 pub fn idle_wrong(random: &mut Random, subject: &mut Subject) {
-    change_working(random, subject, false);
+    change_working(random, subject, |site, class| queue(site, class).is_empty());
 }

@@ -1,15 +1,15 @@
 //! The sound rules about ids, definitive numbers, times put back and the two counts.
 
-use crate::aim::{HALF, age, any_slot};
+use crate::aim::{HALF, age, any_slot, swap_places};
 use crate::subject::Subject;
-use crate::view::{differ, is_confirmed, is_used, queue, queued, used};
+use crate::view::{differ, is_confirmed, is_used, named, queued, used};
 use model::random::Random;
-use shpendorak::raw::{CLASSES, SLOTS, Site, Slot};
+use shpendorak::raw::{CLASSES, Site, Slot};
 
 /// So many confirmations later no number is kept any more.
 const LONG_AGO: u32 = 1_000;
-/// No count of confirmations is as large.
-const BEYOND_32_BITS: u64 = 1 << u32::BITS;
+/// No counts of confirmations and queries together are as large.
+const BEYOND_33_BITS: u64 = 1 << (u32::BITS + 1);
 
 /// Ids differ.
 pub fn ids_differ(subject: &Subject) -> bool {
@@ -27,25 +27,12 @@ pub fn equal_ids(random: &mut Random, subject: &mut Subject) {
     }
 }
 
-/// Two neighbours that a test allows change places in a queue.
+/// Two neighbouring requests that a test allows change places in a queue.
 fn swap_neighbours(random: &mut Random, subject: &mut Subject, allows: fn(&Slot, &Slot) -> bool) {
-    let site = &subject.site;
-    let pairs = (0..CLASSES).flat_map(|class| {
-        let queue = queue(site, class).windows(2).enumerate();
-        queue.map(move |(place, pair)| (class * SLOTS + place, pair))
+    swap_places(random, &mut subject.site, |site, one, next| {
+        let slots = named(site, one).zip(named(site, next));
+        slots.is_some_and(|(one, next)| one.done == 0 && allows(one, next))
     });
-    let slot = |place: u8| site.slots.get(usize::from(place));
-    let allowed: Vec<usize> = pairs
-        .filter(|(_, pair)| {
-            let (one, next) = (slot(pair[0]), slot(pair[1]));
-            one.zip(next).is_some_and(|(one, next)| one.done == 0 && allows(one, next))
-        })
-        .map(|(at, _)| at)
-        .collect();
-    if !allowed.is_empty() {
-        let at = random.pick(&allowed);
-        subject.site.queue.swap(at, at + 1);
-    }
 }
 
 /// In each queue the confirmed stand before the waiting.
@@ -121,18 +108,24 @@ pub fn commits_wrong(random: &mut Random, subject: &mut Subject) {
     *commits = if random.chance(HALF) { commits.wrapping_add(1) } else { commits.wrapping_sub(1) };
 }
 
-/// No count of times put back is above the count of confirmations.
-pub fn backs_are_counted(subject: &Subject) -> bool {
-    used(subject).all(|slot| slot.backs <= subject.site.confirmations.into())
+/// The confirmations and the queries begun.
+fn confirmations_and_queries(site: &Site) -> u64 {
+    u64::from(site.confirmations) + u64::from(site.begun)
 }
 
-/// A request was put back more often than there were confirmations: once, somewhat or far more.
+/// No count of times put back is above the count of confirmations and queries begun.
+pub fn backs_are_counted(subject: &Subject) -> bool {
+    let most = confirmations_and_queries(&subject.site);
+    used(subject).all(|slot| slot.backs <= most)
+}
+
+/// A request was put back more often than there were of these: once, somewhat or far more.
 pub fn backs_above_count(random: &mut Random, subject: &mut Subject) {
     let site = &mut subject.site;
     if let Some(at) = any_slot(random, site, |_, slot| is_used(slot)) {
-        let confirmations = u64::from(site.confirmations);
+        let most = confirmations_and_queries(site);
         let (some, any) = (u64::from(random.byte()), random.bits());
-        let above = [confirmations + 1, confirmations + 1 + some, any | BEYOND_32_BITS, u64::MAX];
+        let above = [most + 1, most + 1 + some, any | BEYOND_33_BITS, u64::MAX];
         site.slots[at].backs = random.pick(&above);
     }
 }

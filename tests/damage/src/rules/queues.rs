@@ -1,21 +1,39 @@
 //! The sound rules about where slots stand: queues, places past their ends, the map of used slots.
 
 use crate::aim::{HALF, any_class, any_slot, byte_from};
+use crate::plain::from_plain;
 use crate::subject::Subject;
-use crate::view::{is_confirmed, is_used, named, queue, queue_and_past};
+use crate::view::{is_confirmed, is_used, named, query_at, queue, queue_and_past};
+use model::craft;
 use model::random::Random;
-use shpendorak::raw::{CLASSES, SLOTS, Site, Slot};
+use model::record;
+use model::site::Site as Plain;
+use shpendorak::raw::{CLASS_PLACES, CLASSES, QUERIES, SLOTS, Site, Slot};
 
-/// No queue is longer than 128.
+/// No queue is longer than 136.
 pub fn queues_are_short(subject: &Subject) -> bool {
-    subject.site.lens.iter().all(|len| usize::from(*len) <= SLOTS)
+    subject.site.lens.iter().all(|len| usize::from(*len) <= CLASS_PLACES)
 }
 
-/// The longest queue says that it is longer than it can be.
+/// A queue that has all requests and an entry of each query says that it is longer than it can be.
 pub fn queue_too_long(random: &mut Random, subject: &mut Subject) {
+    *subject = full_queue(random);
     let lens = &mut subject.site.lens;
     let longest = lens.iter_mut().max().expect("there are 16 queues");
-    *longest = byte_from(random, SLOTS + 1);
+    *longest = byte_from(random, CLASS_PLACES + 1);
+}
+
+/// A site in which all slots and all queries stand in the queue of one class.
+fn full_queue(random: &mut Random) -> Subject {
+    let mut plain = Plain::fresh();
+    let class = random.below(CLASSES) as u8;
+    for id in 1..=SLOTS as u32 {
+        plain.offer(&record::write(&craft::request(random, id, class, 1)));
+    }
+    for _ in 0..QUERIES {
+        plain.query(1 << class);
+    }
+    from_plain(&plain)
 }
 
 /// How often each slot stands in each queue.
@@ -41,8 +59,8 @@ fn each_stands(subject: &Subject, passes: fn(usize, &[usize; CLASSES]) -> bool) 
 /// A number joins the end of a class queue, if it has a place left.
 fn join(site: &mut Site, class: usize, number: u8) {
     let len = usize::from(site.lens[class]);
-    if len < SLOTS {
-        site.queue[class * SLOTS + len] = number;
+    if len < CLASS_PLACES {
+        site.queue[class * CLASS_PLACES + len] = number;
         site.lens[class] += 1;
     }
 }
@@ -55,9 +73,10 @@ pub fn used_slots_stand(subject: &Subject) -> bool {
 /// The last of a queue is left out of it.
 pub fn slot_left_out(random: &mut Random, subject: &mut Subject) {
     let site = &mut subject.site;
-    if let Some(class) = any_class(random, |class| queue(site, class).len() > 1) {
+    let behind = |class| matches!(queue(site, class), [_, .., last] if query_at(*last).is_none());
+    if let Some(class) = any_class(random, behind) {
         let last = queue(site, class).len() - 1;
-        site.queue[class * SLOTS + last] = 0;
+        site.queue[class * CLASS_PLACES + last] = 0;
         site.lens[class] = last as u8;
     }
 }
@@ -97,18 +116,18 @@ pub fn slot_in_other_queue(random: &mut Random, subject: &mut Subject) {
     }
 }
 
-/// No free slot stands in a queue, nor a number that is none of a slot.
+/// No free slot stands in a queue, nor a number that is none of a slot or query.
 pub fn free_slots_stand_nowhere(subject: &Subject) -> bool {
     let site = &subject.site;
     let mut places = (0..CLASSES).flat_map(|class| queue(site, class));
-    places.all(|place| named(site, *place).is_some_and(is_used))
+    places.all(|&place| query_at(place).is_some() || named(site, place).is_some_and(is_used))
 }
 
-/// A free slot, or a number that is none of a slot, joins a queue.
+/// A free slot, or a number that is none of a slot or query, joins a queue.
 pub fn free_slot_in_queue(random: &mut Random, subject: &mut Subject) {
     let free = any_slot(random, &subject.site, |_, slot| !is_used(slot));
     let number = if random.chance(HALF) { free.map(|at| at as u8) } else { None };
-    let number = number.unwrap_or_else(|| byte_from(random, SLOTS));
+    let number = number.unwrap_or_else(|| byte_from(random, SLOTS + QUERIES));
     let taken = |class| !queue(&subject.site, class).is_empty();
     if let Some(class) = any_class(random, taken) {
         join(&mut subject.site, class, number);
@@ -124,10 +143,10 @@ pub fn places_past_the_end_are_zero(subject: &Subject) -> bool {
 /// A place past the end of a queue gets a number.
 pub fn place_past_the_end(random: &mut Random, subject: &mut Subject) {
     let site = &mut subject.site;
-    if let Some(class) = any_class(random, |class| queue(site, class).len() < SLOTS) {
+    if let Some(class) = any_class(random, |class| queue(site, class).len() < CLASS_PLACES) {
         let end = queue(site, class).len();
-        let place = end + random.below(SLOTS - end);
-        site.queue[class * SLOTS + place] = byte_from(random, 1);
+        let place = end + random.below(CLASS_PLACES - end);
+        site.queue[class * CLASS_PLACES + place] = byte_from(random, 1);
     }
 }
 

@@ -27,7 +27,8 @@ fn put_back_twice() -> Site {
 
 /// The count of each queued request of a class, head first.
 fn counts(site: &Site, class: usize) -> Vec<u64> {
-    site.classes[class].queue.iter().map(|entry| entry.backs).collect()
+    let queue = site.classes[class].queue.iter();
+    queue.map(|item| item.request().expect("a request").backs).collect()
 }
 
 #[test]
@@ -154,6 +155,6 @@ fn a_count_reaches_the_count_of_confirmations_and_not_more() {
         site.check();
         site.work(2);
     }
-    site.classes[2].queue[0].backs += 1;
+    site.classes[2].request_at(0).backs += 1;
     assert!(site.breach().is_some());
 }

@@ -134,7 +134,7 @@ fn confirming_the_fourth_of_four_waiting_makes_it_head() {
     assert_eq!(confirm(&mut site, 4), Answer::Waiting { id: 4, w: 5, put_back: 1 });
     assert_eq!(ids(&site, 2), [4, 1, 2, 3]);
     assert_eq!(site.classes[2].working, site.classes[2].committed);
-    assert!(site.classes[2].queue.iter().all(|entry| entry.done == 0));
+    assert!(site.entries().all(|entry| entry.done == 0));
 }
 
 #[test]
@@ -150,9 +150,9 @@ fn a_head_put_back_is_not_declined_any_more() {
     offer(&mut site, 1, 0, &[need(0, 5), put(1, 1)]);
     offer(&mut site, 2, 0, &[put(0, 5)]);
     work(&mut site, 0, 2);
-    assert_eq!(site.classes[0].queue[0].mark, 1);
+    assert_eq!(site.classes[0].request_at(0).mark, 1);
     assert_eq!(confirm(&mut site, 2), Answer::Waiting { id: 2, w: 1, put_back: 1 });
-    assert_eq!(site.classes[0].queue[1].mark, 0);
+    assert_eq!(site.classes[0].request_at(1).mark, 0);
     work(&mut site, 0, 3);
     let answer = Answer::Committed { id: 1, number: 2, mark: 0, slot: 0, backs: 1 };
     assert_eq!(confirm(&mut site, 1), answer);
@@ -164,7 +164,7 @@ fn confirming_an_active_head_keeps_what_is_done() {
     let mut site = four_waiting();
     assert_eq!(work(&mut site, 2, 2), Answer::Stepped { id: 1, done: 2 });
     assert_eq!(confirm(&mut site, 1), Answer::Waiting { id: 1, w: 3, put_back: 0 });
-    assert_eq!(site.classes[2].queue[0].done, 2);
+    assert_eq!(site.classes[2].request_at(0).done, 2);
     assert_eq!(site.classes[2].working[0], 1);
     assert_eq!(work(&mut site, 2, 2), Answer::Stepped { id: 1, done: 4 });
     let answer = Answer::Committed { id: 1, number: 1, mark: 0, slot: 0, backs: 0 };

@@ -63,7 +63,8 @@ pub fn through(site: &mut Site, class: u8, ops: &[Op]) -> usize {
 
 /// The ids in the queue of a class, head first.
 pub fn ids(site: &Site, class: usize) -> Vec<u32> {
-    site.classes[class].queue.iter().map(|entry| entry.request.id).collect()
+    let queue = site.classes[class].queue.iter();
+    queue.map(|item| item.request().expect("a request").request.id).collect()
 }
 
 /// Runs the model's program with arguments and an input.

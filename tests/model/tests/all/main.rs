@@ -9,6 +9,7 @@ mod event;
 mod help;
 mod kept;
 mod ledger;
+mod queries;
 mod record;
 mod refusals;
 mod sound;

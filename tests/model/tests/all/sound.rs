@@ -87,27 +87,27 @@ fn breaks(rule: &str, change: impl Fn(&mut Site)) {
 #[test]
 fn broken_records_are_noticed() {
     let rule = "each record is valid";
-    breaks(rule, |site| site.classes[0].queue[0].request.id = 0);
-    breaks(rule, |site| site.classes[0].queue[2].request.class = 16);
-    breaks(rule, |site| site.classes[0].queue[2].request.ops.clear());
-    breaks(rule, |site| site.classes[0].queue[2].request.ops = vec![put(0, 0); 8]);
-    breaks(rule, |site| site.classes[0].queue[2].request.ops[0] = add(64, 0));
-    breaks(rule, |site| site.classes[0].queue[2].request.ops[0] = shift(9, 9, 0));
-    breaks(rule, |site| site.classes[0].queue[2].request.ops[0] = shift(9, 64, 0));
+    breaks(rule, |site| site.classes[0].request_at(0).request.id = 0);
+    breaks(rule, |site| site.classes[0].request_at(2).request.class = 16);
+    breaks(rule, |site| site.classes[0].request_at(2).request.ops.clear());
+    breaks(rule, |site| site.classes[0].request_at(2).request.ops = vec![put(0, 0); 8]);
+    breaks(rule, |site| site.classes[0].request_at(2).request.ops[0] = add(64, 0));
+    breaks(rule, |site| site.classes[0].request_at(2).request.ops[0] = shift(9, 9, 0));
+    breaks(rule, |site| site.classes[0].request_at(2).request.ops[0] = shift(9, 64, 0));
 }
 
 #[test]
 fn broken_queues_are_noticed() {
     breaks("there are 16 classes", |site| site.classes.truncate(15));
     let once = "every used slot stands exactly once";
-    breaks(once, |site| site.classes[0].queue[0].slot = 3);
-    breaks(once, |site| site.classes[0].queue[0].slot = 128);
+    breaks(once, |site| site.classes[0].request_at(0).slot = 3);
+    breaks(once, |site| site.classes[0].request_at(0).slot = 128);
     let own = "a slot stands in the queue of its class";
-    breaks(own, |site| site.classes[0].queue[2].request.class = 1);
-    breaks("ids differ", |site| site.classes[1].queue[0].request.id = 3);
-    breaks("no queue is longer than 128", |site| {
+    breaks(own, |site| site.classes[0].request_at(2).request.class = 1);
+    breaks("ids differ", |site| site.classes[1].request_at(0).request.id = 3);
+    breaks("no queue is longer than 136", |site| {
         let last = site.classes[0].queue[2].clone();
-        site.classes[0].queue.resize(129, last);
+        site.classes[0].queue.resize(137, last);
     });
 }
 
@@ -116,46 +116,46 @@ fn broken_numbers_and_counts_are_noticed() {
     let first = "the confirmed stand before the waiting";
     breaks(first, |site| site.classes[0].queue.swap(1, 2));
     breaks("confirmed numbers rise in a queue", |site| {
-        site.classes[0].queue[0].number = Some(2);
-        site.classes[0].queue[1].number = Some(1);
+        site.classes[0].request_at(0).number = Some(2);
+        site.classes[0].request_at(1).number = Some(1);
     });
     let differ = "confirmed numbers differ over the whole site";
-    breaks(differ, |site| site.classes[1].queue[0].number = Some(1));
+    breaks(differ, |site| site.classes[1].request_at(0).number = Some(1));
     let within = "confirmed numbers lie between 1 and the count";
-    breaks(within, |site| site.classes[0].queue[0].number = Some(0));
-    breaks(within, |site| site.classes[0].queue[1].number = Some(3));
+    breaks(within, |site| site.classes[0].request_at(0).number = Some(0));
+    breaks(within, |site| site.classes[0].request_at(1).number = Some(3));
     let counts = "confirmations are commits plus confirmed requests queued";
     breaks(counts, |site| site.commits += 1);
     breaks(counts, |site| site.confirmations += 1);
-    let backs = "none was put back more often than there were confirmations";
-    breaks(backs, |site| site.classes[0].queue[2].backs = 3);
-    breaks(backs, |site| site.classes[1].queue[0].backs = u64::MAX);
+    let backs = "none was put back more often than there were confirmations and queries";
+    breaks(backs, |site| site.classes[0].request_at(2).backs = 3);
+    breaks(backs, |site| site.classes[1].request_at(0).backs = u64::MAX);
 }
 
 #[test]
 fn broken_heads_are_noticed() {
-    breaks("none has more done than operations", |site| site.classes[1].queue[0].done = 4);
+    breaks("none has more done than operations", |site| site.classes[1].request_at(0).done = 4);
     let only = "only a head has anything done";
-    breaks(only, |site| site.classes[0].queue[1].done = 1);
-    breaks(only, |site| site.classes[0].queue[2].mark = 1);
-    breaks("a confirmed head is not executed", |site| site.classes[0].queue[0].done = 3);
+    breaks(only, |site| site.classes[0].request_at(1).done = 1);
+    breaks(only, |site| site.classes[0].request_at(2).mark = 1);
+    breaks("a confirmed head is not executed", |site| site.classes[0].request_at(0).done = 3);
     let first = "the mark is the first that declined";
-    breaks(first, |site| site.classes[0].queue[0].mark = 1);
+    breaks(first, |site| site.classes[0].request_at(0).mark = 1);
     for wrong in [0, 1, 3] {
-        breaks(first, |site| site.classes[1].queue[0].mark = wrong);
+        breaks(first, |site| site.classes[1].request_at(0).mark = wrong);
     }
-    breaks(first, |site| site.classes[1].queue[0].done = 1);
+    breaks(first, |site| site.classes[1].request_at(0).done = 1);
 }
 
 #[test]
 fn wrong_working_cells_are_noticed() {
     let rule = "working cells follow the head";
     breaks(rule, |site| site.classes[0].working[63] += 1);
-    breaks(rule, |site| site.classes[0].queue[0].done = 1);
+    breaks(rule, |site| site.classes[0].request_at(0).done = 1);
     breaks(rule, |site| site.classes[1].working[5] = 8);
     breaks(rule, |site| site.classes[15].working[0] = 1);
     breaks(rule, |site| site.classes[15].committed[0] = 1);
     breaks(rule, |site| {
-        site.classes[0].queue[0].request = request(1, 0, &[add(0, 1), put(1, 8), put(0, 0)]);
+        site.classes[0].request_at(0).request = request(1, 0, &[add(0, 1), put(1, 8), put(0, 0)]);
     });
 }

@@ -22,7 +22,7 @@ const TOO_LONG: u8 = 200;
 const SPOILED_TURN: usize = 50;
 
 /// The calls in the order of the table.
-const NAMES: [&str; 6] = ["fresh", "offer", "confirm", "work", "read", "look"];
+const NAMES: [&str; 7] = ["fresh", "offer", "confirm", "work", "read", "look", "query"];
 
 /// The place of a call in the table.
 fn row_of(asked: &Asked) -> usize {
@@ -33,6 +33,7 @@ fn row_of(asked: &Asked) -> usize {
         Asked::Call(Call::Work { .. }) => 3,
         Asked::Call(Call::Read { .. }) => 4,
         Asked::Call(Call::Look { .. }) => 5,
+        Asked::Call(Call::Query { .. }) => 6,
     }
 }
 
@@ -71,6 +72,7 @@ impl Table {
         unsound.site.lens[0] = TOO_LONG;
         let mut used_up = Plain::fresh().held().clone();
         (used_up.site.confirmations, used_up.site.commits) = (u32::MAX, u32::MAX);
+        used_up.site.begun = u32::MAX;
         used_up.site.kept = std::array::from_fn(|place| 1 + place as u32);
         for mut spoiled in [short, unsound, used_up] {
             self.take(&mut spoiled, asked);

@@ -10,8 +10,10 @@ const MARKS: usize = 4096;
 
 /// Whether the site is sound with its cells.
 pub fn sound(site: &Site, committed: &[u32], working: &[u32]) -> bool {
-    site.slots.iter().all(|slot| slot_ok(slot, site.confirmations))
-        && site.lens.iter().all(|&len| usize::from(len) <= SLOTS)
+    let most_backs = u64::from(site.confirmations) + u64::from(site.begun);
+    site.slots.iter().all(|slot| slot_ok(slot, most_backs))
+        && site.lens.iter().all(|&len| usize::from(len) <= CLASS_PLACES)
+        && site.queries.iter().all(|query| query.classes != 0 || query.begun == 0)
         && tails_zero(site)
         && map_agrees(site)
         && each_once(site)
@@ -24,12 +26,17 @@ pub fn sound(site: &Site, committed: &[u32], working: &[u32]) -> bool {
 
 /// The queue of a class, head first.
 pub fn queue_of(site: &Site, class: usize) -> &[u8] {
-    &site.queue[SLOTS * class..][..usize::from(site.lens[class])]
+    &site.queue[CLASS_PLACES * class..][..usize::from(site.lens[class])]
 }
 
-/// Whether a slot is free and all zero, or holds a valid record that was put back at most as often as was confirmed.
-fn slot_ok(slot: &Slot, confirmations: u32) -> bool {
-    if slot.id == 0 { *slot == FREE } else { holds(slot) && slot.backs <= confirmations.into() }
+/// The index of the query whose entry a queue place names, if it names one.
+pub fn query_at(place: u8) -> Option<usize> {
+    usize::from(place).checked_sub(SLOTS)
+}
+
+/// Whether a slot is free and all zero, or holds a valid record that was put back at most so often.
+fn slot_ok(slot: &Slot, most_backs: u64) -> bool {
+    if slot.id == 0 { *slot == FREE } else { holds(slot) && slot.backs <= most_backs }
 }
 
 /// Whether a slot holds a valid record.
@@ -54,7 +61,7 @@ fn op_ok(op: &Op) -> bool {
 
 /// Whether the queue places past the end are zero.
 fn tails_zero(site: &Site) -> bool {
-    let mut classes = site.queue.chunks_exact(SLOTS).zip(&site.lens);
+    let mut classes = site.queue.chunks_exact(CLASS_PLACES).zip(&site.lens);
     classes.all(|(places, &len)| places[usize::from(len)..].iter().all(|&place| place == 0))
 }
 
@@ -66,11 +73,21 @@ fn map_agrees(site: &Site) -> bool {
     [site.low, site.high].into_iter().zip(site.slots.chunks_exact(u64::BITS as usize)).all(agrees)
 }
 
-/// Whether every used slot stands exactly once, in the queue of its class, and no free slot stands in one.
+/// Whether every used slot stands exactly once, in the queue of its class, no free slot stands in one, and each query has one entry in the queue of
+/// each class that it has still to read and in no other.
 fn each_once(site: &Site) -> bool {
     let mut seen = 0u128;
+    let mut entered = [0u16; QUERIES];
     for class in 0..CLASSES {
         for &place in queue_of(site, class) {
+            if let Some(index) = query_at(place) {
+                let bit = 1 << class;
+                if index >= QUERIES || entered[index] & bit != 0 {
+                    return false;
+                }
+                entered[index] |= bit;
+                continue;
+            }
             let Some(slot) = site.slots.get(usize::from(place)) else {
                 return false;
             };
@@ -82,6 +99,7 @@ fn each_once(site: &Site) -> bool {
         }
     }
     seen == u128::from(site.high) << u64::BITS | u128::from(site.low)
+        && site.queries.iter().zip(entered).all(|(query, entered)| query.classes == entered)
 }
 
 /// Whether ids differ and numbers differ, over the pairs of slots.
@@ -93,19 +111,33 @@ fn pairs_differ(slots: &[Slot; SLOTS]) -> bool {
     })
 }
 
-/// Whether in each queue the confirmed stand before the waiting, with rising numbers, and only a head has anything done.
+/// Whether in each queue the confirmed stand before the waiting, with rising numbers, the entries of queries among them by the count at their
+/// beginning, and only a head has anything done.
 fn in_order(site: &Site) -> bool {
     (0..CLASSES).all(|class| {
-        let slots = queue_of(site, class).iter().map(|&place| &site.slots[usize::from(place)]);
-        slots.clone().all(|slot| slot.number <= site.confirmations)
-            && slots.clone().zip(slots.skip(1)).all(|(before, slot)| follows(before, slot))
+        let mut line = Some(0);
+        queue_of(site, class).iter().enumerate().all(|(at, &place)| {
+            let stands = match query_at(place) {
+                Some(index) => line
+                    .filter(|&line| line <= site.queries[index].begun)
+                    .map(|_| Some(site.queries[index].begun)),
+                None => behind(line, &site.slots[usize::from(place)], at == 0),
+            };
+            line = stands.flatten();
+            stands.is_some() && line.is_none_or(|line| line <= site.confirmations)
+        })
     })
 }
 
-/// Whether a slot may stand directly behind another.
-fn follows(before: &Slot, slot: &Slot) -> bool {
-    let rises = slot.number == 0 || (before.number != 0 && before.number < slot.number);
-    rises && slot.done == 0 && slot.mark == 0
+/// What stands behind a slot must be above its number, or wait too; none where the slot may not stand behind such a line.
+fn behind(line: Option<u32>, slot: &Slot, is_head: bool) -> Option<Option<u32>> {
+    if !is_head && (slot.done != 0 || slot.mark != 0) {
+        return None;
+    }
+    if slot.number == 0 {
+        return Some(None);
+    }
+    line.filter(|&line| line < slot.number).map(|_| Some(slot.number))
 }
 
 /// Whether the confirmations are the commits and the confirmed requests queued.
@@ -157,8 +189,10 @@ fn cells_ok(site: &Site, committed: &[u32], working: &[u32]) -> bool {
     runs.all(|(committed, working)| {
         let head = classes.next().and_then(|class| queue_of(site, class).first());
         match head {
-            Some(&place) => head_ok(&site.slots[usize::from(place)], committed, working),
-            None => working == committed,
+            Some(&place) if query_at(place).is_none() => {
+                head_ok(&site.slots[usize::from(place)], committed, working)
+            }
+            _ => working == committed,
         }
     })
 }

@@ -15,12 +15,11 @@ head-done-requires : tie.Need-head-done-requires
 head-done-requires c κs =
     let c₁ = c .before .before .before .before .before .before .before in
     let judge-confirm· = c .before .before .judge-confirm in
-    let if1· = c .if1 in
     let args· = c₁ .args in
-    let j· = judge-confirm· .ensures .act (if1· .left) in (
+    let j· = judge-confirm· .ensures .act (c .if1 .left) in (
       j· .ready .small,
-      rw (j· .class) (small-class (stateOf (args· .self) (now (args· .committed)) (now (args· .working))) (shaped (args· .self) _ (c₁
-          .good .0)) (judge-confirm· .result .slot) (j· .ready)),
+      rw (j· .class) (small-class (stateOf (args· .self) (now (args· .committed)) (now (args· .working))) (shaped (args· .self) _ (c₁ .good .0))
+          (judge-confirm· .result .slot) (j· .ready)),
       j· .class,
     )
 
@@ -35,9 +34,7 @@ returns-2 : tie.Need-returns-2
 returns-2 c =
     let c₁ = c .before .before .before .before .before .before .before in
     let c₂ = c₁ .before .before in
-    let judge-confirm· = c₂ .judge-confirm in
-    let if1· = c₁ .if1 in
-    let j· = judge-confirm· .ensures .act (if1· .left) in
+    let j· = c₂ .judge-confirm .ensures .act (c₁ .if1 .left) in
     called-did _ _ _ _ (j· .ready .right) (j· .ready .sound) (rw (← (j· .is), j· .next) (c .before .before .confirm-now .ensures))
 
 place-of-requires : tie.Need-place-of-requires
@@ -45,9 +42,8 @@ place-of-requires c κs =
     let c₁ = c .before .before .before .before in
     let c₂ = c₁ .before .before .before .before .before in
     let judge-confirm· = c₁ .judge-confirm in
-    let if1· = c .before .before .if1 in
     let args· = c₂ .args in
-    let j· = judge-confirm· .ensures .act (if1· .left) in
+    let j· = judge-confirm· .ensures .act (c .before .before .if1 .left) in
     rw (j· .class) (in-queue (stateOf (args· .self) (now (args· .committed)) (now (args· .working))) (shaped (args· .self) _ (c₂ .good .0))
     (judge-confirm· .result .slot) (j· .ready))
 
@@ -57,9 +53,8 @@ first-waiting-requires c κs =
     let c₂ = c₁ .before .before in
     let c₃ = c₂ .before .before .before .before .before in
     let judge-confirm· = c₂ .judge-confirm in
-    let if1· = c₁ .if1 in
     let args· = c₃ .args in
-    let j· = judge-confirm· .ensures .act (if1· .left) in (
+    let j· = judge-confirm· .ensures .act (c₁ .if1 .left) in (
       j· .ready .sound .laid,
       rw (j· .class) (small-class (stateOf (args· .self) (now (args· .committed)) (now (args· .working))) (shaped (args· .self)
           _ (c₃ .good .0)) (judge-confirm· .result .slot) (j· .ready)),
@@ -72,14 +67,11 @@ confirm-later-requires c κs =
     let c₃ = c₂ .before in
     let c₄ = c₃ .before in
     let c₅ = c₄ .before .before in
-    let judge-confirm· = c₅ .judge-confirm in
-    let if1· = c₄ .if1 in
-    let j· = judge-confirm· .ensures .act (if1· .left) in (
+    let j· = c₅ .judge-confirm .ensures .act (c₄ .if1 .left) in (
       (j· .ready, c₃ .head-done .ensures .no (c₂ .if2 .left)),
       (
         rw (j· .class) at (c₁ .place-of .ensures),
-        rw (j· .class) at (c .before .before
-            .first-waiting .ensures),
+        rw (j· .class) at (c .before .before .first-waiting .ensures),
       ),
     )
 
@@ -87,9 +79,7 @@ returns-3 : tie.Need-returns-3
 returns-3 c =
     let c₁ = c .before .before .before .before .before .before .before .before .before in
     let c₂ = c₁ .before .before in
-    let judge-confirm· = c₂ .judge-confirm in
-    let if1· = c₁ .if1 in
-    let j· = judge-confirm· .ensures .act (if1· .left) in
+    let j· = c₂ .judge-confirm .ensures .act (c₁ .if1 .left) in
     called-did _ _ _ _ (j· .ready .right) (j· .ready .sound) (rw (← (j· .is), j· .next) (c .before .before .confirm-later .ensures))
 
 pub confirm-spec : {M : Type 1} → statement M

@@ -18,16 +18,16 @@ commit-requires c κs =
     let c₁ = c .before .before .before .before .before in
     let args· = c₁ .args in
     let pre· = c₁ .pre in
-    commits (stateOf (args· .t1) (now (args· .committed)) (now (args· .working))) (shaped (args· .t1) _ (c₁ .good .0)) (args· .i) (pre· .0) (pre· .1)
-    _ refl
+    commits (stateOf (args· .t1) (now (args· .committed)) (now (args· .working))) (shaped (args· .t1) _ (c₁ .good .0)) (args· .i) (pre· .0)
+    (pre· .1) _ refl
 
 returns : tie.Need-returns
 returns c =
     let c₁ = c .before .before .before .before .before .before .before .before in
     let args· = c₁ .args in
     let pre· = c₁ .pre in
-    rw (small-slot (args· .i) (pre· .0 .small)) (committed (stateOf (args· .t1) (now (args· .committed)) (now (args· .working))) (shaped (args· .t1) _
-    (c₁ .good .0)) (args· .i) (pre· .0) (pre· .1) _ refl _ _ (c .before .before .commit .ensures))
+    rw (small-slot (args· .i) (pre· .0 .small)) (committed (stateOf (args· .t1) (now (args· .committed)) (now (args· .working))) (shaped
+    (args· .t1) _ (c₁ .good .0)) (args· .i) (pre· .0) (pre· .1) _ refl _ _ (c .before .before .commit .ensures))
 
 pub confirm-now-spec : {M : Type 1} → statement M
 confirm-now-spec =

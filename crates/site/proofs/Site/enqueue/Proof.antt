@@ -7,7 +7,11 @@ use Rattle.site.proofs.Site.enqueue.Statement.{statement}
 use Rattle.site.proofs.Site.enqueue.Tie as tie
 
 returns : tie.Need-returns
-returns c = let args· = c .before .before .before .args in let small : args· .s % 256 ≡ args· .s = omega arith in record { is = rw small; used = search needs }
+returns c =
+    let c₁ = c .before .before .before in
+    let args· = c₁ .args in
+    let small : args· .s % 256 ≡ args· .s = omega arith in
+    record { is = rw small; used = search needs }
 
 pub enqueue-spec : {M : Type 1} → statement M
 enqueue-spec =

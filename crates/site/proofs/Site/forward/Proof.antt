@@ -15,6 +15,8 @@ returns c = let numbered· = c .before .before .numbered in record {
   confirmations = ap (λ (z : Store). z .confirmations) (numbered· .ensures);
   commits = ap (λ (z : Store). z .commits) (numbered· .ensures);
   kept = ap (λ (z : Store). z .kept) (numbered· .ensures);
+  queries = ap (λ (z : Store). z .queries) (numbered· .ensures);
+  begun = ap (λ (z : Store). z .begun) (numbered· .ensures);
 }
 
 pub forward-spec : {M : Type 1} → statement M

@@ -9,8 +9,7 @@ returns c = decides-false (λ h. c .if1 .taken (rw (c .before .before .pre .2) (
 
 returns-2 : tie.Need-returns-2
 returns-2 c =
-    let c₁ = c .before .before .before .before in
-    decides-as (λ e. (rw (← (c₁ .pre .2)) (c .before .before .if1 .left), e)) (λ h. h .1) (decides-eq _ _)
+    decides-as (λ e. (rw (← (c .before .before .before .before .pre .2)) (c .before .before .if1 .left), e)) (λ h. h .1) (decides-eq _ _)
 
 pub head-done-spec : {M : Type 1} → statement M
 head-done-spec =

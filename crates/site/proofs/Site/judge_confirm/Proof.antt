@@ -18,10 +18,8 @@ returns-2 : tie.Need-returns-2
 returns-2 c =
     let c₁ = c .before .before .before in
     let c₂ = c₁ .before .before .before in
-    let door· = c₁ .door in
-    let if1· = c .before .before .if1 in
     let args· = c₂ .args in
-    let o· = door· .ensures .open-to (if1· .left) in
+    let o· = c₁ .door .ensures .open-to (c .before .before .if1 .left) in
     record {
       act = λ e. absurd (omega arith);
       refuse = λ n. called-did _ _ _ _ (o· .0) (o· .1) (all-taken (stateOf (args· .self) (now (args·
@@ -37,18 +35,15 @@ returns-3 c =
     let c₁ = c .before .before .before .before in
     let c₂ = c₁ .before in
     let c₃ = c₂ .before .before .before in
-    let door· = c₂ .door in
-    let if1· = c₁ .if1 in
     let args· = c₃ .args in
     let good· = c₃ .good in
-    let o· = door· .ensures .open-to (if1· .left) in
+    let o· = c₂ .door .ensures .open-to (c₁ .if1 .left) in
     record {
       act = λ e. absurd (omega arith);
       refuse = λ n. called-did _ _ _ _ (o· .0) (o· .1) (not-next (stateOf (args· .self) (now (args·
           .committed)) (now (args· .working))) (shaped (args· .self) _ (good· .0)) (o· .0) (o· .1) (args· .id) (args· .number) (omega (
             arith,
-            c .before
-                .before .if2 .left,
+            c .before .before .if2 .left,
             good· .0,
           )) (c .if3 .taken));
     }
@@ -59,11 +54,9 @@ returns-4 c =
     let c₂ = c₁ .before .before in
     let c₃ = c₂ .before in
     let c₄ = c₃ .before .before .before in
-    let door· = c₃ .door in
-    let if1· = c₂ .if1 in
     let args· = c₄ .args in
     let good· = c₄ .good in
-    let o· = door· .ensures .open-to (if1· .left) in
+    let o· = c₃ .door .ensures .open-to (c₂ .if1 .left) in
     record {
       act = λ e. absurd (omega arith);
       refuse = λ n. called-did _ _ _ _ (o· .0) (o· .1) (unknown (stateOf (args· .self) (now (args·
@@ -83,13 +76,11 @@ returns-5 c =
     let c₅ = c₄ .before .before in
     let c₆ = c₅ .before in
     let c₇ = c₆ .before .before .before in
-    let door· = c₆ .door in
-    let if1· = c₅ .if1 in
-    let args· = c₇ .args in
-    let good· = c₇ .good in
     let slot-of· = c₂ .slot-of in
     let if4· = c₁ .if4 in
-    let o· = door· .ensures .open-to (if1· .left) in
+    let args· = c₇ .args in
+    let good· = c₇ .good in
+    let o· = c₆ .door .ensures .open-to (c₅ .if1 .left) in
     let found· = slot-of· .ensures .found (omega (arith, if4· .left)) in
     record {
       act = λ e. absurd (omega arith);
@@ -112,13 +103,10 @@ returns-6 c =
     let c₆ = c₅ .before .before in
     let c₇ = c₆ .before in
     let c₈ = c₇ .before .before .before in
-    let door· = c₇ .door in
-    let if1· = c₆ .if1 in
     let if4· = c₂ .if4 in
-    let slot-of· = c₃ .slot-of in
     let slot· = c₁ .slot in
-    let o· = door· .ensures .open-to (if1· .left) in
-    let found· = slot-of· .ensures .found (omega (arith, if4· .left)) in
+    let o· = c₇ .door .ensures .open-to (c₆ .if1 .left) in
+    let found· = c₃ .slot-of .ensures .found (omega (arith, if4· .left)) in
     record {
       act = λ e. record {
         ready = record {

@@ -44,7 +44,8 @@ returns-2 c =
 
 returns-3 : tie.Need-returns-3
 returns-3 c =
-    let c₁ = c .before .before .before .before in
+    let c₁ = c .before .before .before in
+    let c₁ = c₁ .before in
     let c₂ = c₁ .before in
     let c₃ = c₂ .before .before in
     let c₄ = c₃ .before .before in
@@ -57,9 +58,13 @@ returns-3 c =
     id-kept (stateOf (args· .t1) (now (args· .committed)) (now (args· .working))) (shaped (args· .t1) _ (c₅ .good .0)) (pre· .0) (pre· .1)
     (args· .bytes .now) (sym (read-record· .ensures .0 .ok-is) ∙ not-false (read-record· .result .ok) (if1· .left)) (read-record· .result .slot)
     (read-record· .ensures .0 .new (not-false (read-record· .result .ok) (if1· .left))) (read-record· .ensures .0 .request (not-false
-    (read-record· .result .ok) (if1· .left))) (λ j l e. c₂ .slot-of .ensures .absent (omega (arith, c₁ .if2 .left)) j l (omega
-    (arith, has-id (read-record· .result .slot) (read-record· .ensures .0 .new (not-false (read-record· .result .ok) (if1· .left)) .held), e)) e)
-    (a .0) (a .1) (a .2)
+    (read-record· .result .ok) (if1· .left))) (λ j l e. c₂ .slot-of .ensures .absent (omega (arith, c₁ .if2 .left)) j l (omega (
+      arith,
+      has-id
+          (read-record· .result .slot) (read-record· .ensures .0 .new (not-false (read-record· .result .ok) (if1· .left)) .held),
+      e,
+    )) e) (a .0) (a .1)
+    (a .2)
 
 returns-4 : tie.Need-returns-4
 returns-4 c =
@@ -77,10 +82,13 @@ returns-4 c =
     slots-full (stateOf (args· .t1) (now (args· .committed)) (now (args· .working))) (shaped (args· .t1) _ (c₇ .good .0)) (pre· .0) (pre· .1)
     (args· .bytes .now) (sym (read-record· .ensures .0 .ok-is) ∙ not-false (read-record· .result .ok) (if1· .left)) (read-record· .result .slot)
     (read-record· .ensures .0 .new (not-false (read-record· .result .ok) (if1· .left))) (read-record· .ensures .0 .request (not-false
-    (read-record· .result .ok) (if1· .left))) (λ j l e. c₄ .slot-of .ensures .absent (omega (arith, c₃ .if2 .left)) j l (omega
-    (arith, has-id (read-record· .result .slot) (read-record· .ensures .0 .new (not-false (read-record· .result .ok) (if1· .left)) .held), e)) e)
-    (λ j l e. c₂ .among .ensures .no (c₁ .if3 .left) (j, l, e))
-    (omega (arith, c .before .used-count .ensures, c .if4 .taken))
+    (read-record· .result .ok) (if1· .left))) (λ j l e. c₄ .slot-of .ensures .absent (omega (arith, c₃ .if2 .left)) j l (omega (
+      arith,
+      has-id
+          (read-record· .result .slot) (read-record· .ensures .0 .new (not-false (read-record· .result .ok) (if1· .left)) .held),
+      e,
+    )) e)
+    (λ j l e. c₂ .among .ensures .no (c₁ .if3 .left) (j, l, e)) (omega (arith, c .before .used-count .ensures, c .if4 .taken))
 
 enqueue-requires : tie.Need-enqueue-requires
 enqueue-requires c κs =
@@ -129,9 +137,23 @@ enqueue-requires c κs =
           (used-count· .ensures) (if4· .left)),
     )
 
+cast-c : tie.Need-cast-c
+cast-c c =
+    let c₁ = c .before .before .before .before .before .before .before .before .before .before .before in
+    let c₂ = c₁ .before .before in
+    let read-record· = c₂ .read-record in
+    record {
+      fits = omega (
+        arith,
+        has-class (read-record· .result .slot) (read-record· .ensures .0 .new (not-false (read-record· .result .ok)
+            (c₁ .if1 .left)) .held),
+      );
+    }
+
 element-copy-out-place : tie.Need-element-copy-out-place
 element-copy-out-place c =
-    let c₁ = c .before .before .before .before .before .before .before .before .before .before .before in
+    let c₁ = c .before .before .before .before .before .before .before .before .before .before in
+    let c₁ = c₁ .before in
     let c₂ = c₁ .before .before in
     let read-record· = c₂ .read-record in
     has-class (read-record· .result .slot) (read-record· .ensures .0 .new (not-false (read-record· .result .ok) (c₁ .if1 .left)) .held)
@@ -202,7 +224,7 @@ offer-sound-spec =
     returns-4
     (λ c κs. search needs)
     enqueue-requires
-    (λ c. search needs)
+    cast-c
     element-copy-out-place
     (λ c. search needs)
     returns-5)

@@ -8,12 +8,12 @@ use lib.ListN.{getD}
 use Rattle.site.specs.Held.{store}
 use Rattle.site.proofs.Shape.{shaped}
 use Rattle.store.specs.Meaning.{lenOf}
-use Rattle.store.proofs.Flat.{not-placed}
+use Rattle.store.proofs.Places.{not-placed}
 use Rattle.site.proofs.Site.place_of.Statement.{statement}
 use Rattle.site.proofs.Site.place_of.Tie as tie
 
 abbrev Inv-loop : tie.InvT-loop
-Inv-loop c i self len p₀ p = (p ≤ lenOf (store self) c) × ((k : ℕ) → k < p → getD (self .queue) (128 * c + k) 0 ≡ i → ⊥)
+Inv-loop c i self len p₀ p = (p ≤ lenOf (store self) c) × ((k : ℕ) → k < p → getD (self .queue) (136 * c + k) 0 ≡ i → ⊥)
 
 abbrev μ-loop : tie.MeasureT-loop
 μ-loop c i self len p₀ p = lenOf (store self) c - p
@@ -31,13 +31,13 @@ add-x : tie.Need-add-x Inv-loop μ-loop
 add-x c =
     let c₁ = c .before .before .before in
     let pre· = c₁ .pre in
-    record { fits = omega (arith, pre· .class, c .loop-test .taken, pre· .laid .not-longer-than-128 (c₁ .args .c) (pre· .class)) }
+    record { fits = omega (arith, pre· .class, c .loop-test .taken, pre· .laid .not-longer-than-136 (c₁ .args .c) (pre· .class)) }
 
 element-copy-out-x : tie.Need-element-copy-out-x Inv-loop μ-loop
 element-copy-out-x c =
     let c₁ = c .before .before .before in
     let pre· = c₁ .pre in
-    omega (arith, pre· .class, c .loop-test .taken, pre· .laid .not-longer-than-128 (c₁ .args .c) (pre· .class))
+    omega (arith, pre· .class, c .loop-test .taken, pre· .laid .not-longer-than-136 (c₁ .args .c) (pre· .class))
 
 returns : tie.Need-returns Inv-loop μ-loop
 returns c = record { within = c .before .before .loop-test .taken; is = c .if1 .taken }
@@ -46,7 +46,7 @@ add-p : tie.Need-add-p Inv-loop μ-loop
 add-p c =
     let c₁ = c .before .before .before .before .before in
     let pre· = c₁ .pre in
-    record { fits = omega (arith, c .before .before .loop-test .taken, pre· .laid .not-longer-than-128 (c₁ .args .c) (pre· .class)) }
+    record { fits = omega (arith, c .before .before .loop-test .taken, pre· .laid .not-longer-than-136 (c₁ .args .c) (pre· .class)) }
 
 loop-less : tie.Need-loop-less Inv-loop μ-loop
 loop-less c = omega (arith, c .before .before .loop-test .taken)
@@ -62,7 +62,7 @@ returns-2 c =
     absurd (omega (
       arith,
       pre· .stands,
-      not-placed (store (args· .t1)) (shaped (args· .t1) _ (c₁ .good .0)) (pre· .laid .not-longer-than-128)
+      not-placed (store (args· .t1)) (shaped (args· .t1) _ (c₁ .good .0)) (pre· .laid .not-longer-than-136)
           (args· .c) (args· .i) (pre· .class) (λ k l. c .before .loop .inv .1 k (omega (arith, c .loop-test .left))),
     ))
 

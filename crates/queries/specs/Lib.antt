@@ -1,0 +1,2 @@
+-- What the table of queries means.
+pub mod Table
