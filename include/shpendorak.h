@@ -131,6 +131,7 @@ typedef struct shpendorak_site {
     uint32_t kept[SHPENDORAK_KEPT];    /* ids last confirmed: that of number n at n mod 256 */
     shpendorak_open_query queries[SHPENDORAK_QUERIES]; /* by their place less 1 */
     uint32_t begun;                    /* how many queries were begun */
+    uint16_t sums[SHPENDORAK_CLASSES]; /* operations and entries still to do by the confirmed */
 } shpendorak_site;
 
 /* Fresh: clears all 2,048 cells and hands back a site with nothing queued and both counts 0.

@@ -136,6 +136,8 @@ pub struct Site {
     pub queries: [Query; QUERIES],
     /// The count of queries begun.
     pub begun: u32,
+    /// For each class the operations and query entries still to do by the confirmed part of its queue.
+    pub sums: [u16; CLASSES],
 }
 
 #[link(name = "host", kind = "static")]

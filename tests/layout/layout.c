@@ -36,6 +36,7 @@ STANDS(shpendorak_site, commits, 12452, 4);
 STANDS(shpendorak_site, kept, 12456, 1024);
 STANDS(shpendorak_site, queries, 13480, 64);
 STANDS(shpendorak_site, begun, 13544, 4);
-_Static_assert(sizeof(shpendorak_site) == 13552, "a site");
+STANDS(shpendorak_site, sums, 13548, 32);
+_Static_assert(sizeof(shpendorak_site) == 13584, "a site");
 _Static_assert(SHPENDORAK_CLASS_PLACES == SHPENDORAK_SLOTS + SHPENDORAK_QUERIES, "a queue has room for every slot and query");
 _Static_assert(SHPENDORAK_PLACES == SHPENDORAK_CLASSES * SHPENDORAK_CLASS_PLACES, "so has each class");

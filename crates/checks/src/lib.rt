@@ -7,8 +7,8 @@ ghost use Rattle.plain.specs.Sizes.{slotCount, queryCount};
 ghost use Rattle.plain.specs.Decides.{Decides};
 ghost use Rattle.store.specs.Store.{runSize, placeCount};
 ghost use Rattle.store.specs.Sound.{Short};
-ghost use Rattle.store.specs.Checks.{nth, SlotsIn, Owned, Staged, Lined, Classed, MapOf, Unnumbered, Differ, ZeroFrom, Tails, FreeIn};
-ghost use Rattle.store.specs.Checks.{stand, Next, QueueOk, PlacesOk, Named, InRange, numbered, LaidOut, Heads, HeadsHold, HeadCells};
+ghost use Rattle.store.specs.Checks.{nth, due, SlotsIn, Owned, Staged, Lined, Classed, MapOf, Unnumbered, Differ, ZeroFrom, Tails, FreeIn};
+ghost use Rattle.store.specs.Checks.{stand, Next, QueueOk, PlacesOk, Named, InRange, sumOf, SumsIn, numbered, LaidOut, Heads, HeadsHold, HeadCells};
 
 mod once; // once.rt: what stands in the queues
 
@@ -78,27 +78,45 @@ pub fn gather_numbers(slots: [Slot; SLOTS]) -> [u32; SLOTS]
     numbers
 }
 
-// Of what queue places name the lines, done operations and marks.
+// Of what queue places name the lines, done operations and marks, and the work calls that it takes where it is confirmed.
 pub struct Stages {
     pub lines: [u32; CLASS_PLACES],
     pub dones: [u8; CLASS_PLACES],
     pub marks: [u8; CLASS_PLACES],
+    pub dues: [u8; CLASS_PLACES],
 }
 
-// The stages of the slots and queries. The line of a slot is its number, that of an entry the count at its query's beginning.
+// The work calls that a request takes where it is confirmed, else 0.
+fn due(number: u32, count: u8, done: u8) -> u8
+    ensures { λ r. ⌜ r ≡ due number count done ⌝ }
+{
+    if number == 0 {
+        return 0;
+    }
+    if count <= done {
+        return 0;
+    }
+    count - done
+}
+
+// The stages of the slots and queries. The line of a slot is its number, that of an entry the count at its query's beginning; an entry takes one work call.
 pub fn gather_stages(slots: [Slot; SLOTS], table: [Query; QUERIES]) -> Stages
-    ensures { λ r. ⌜ Lined slots table (r .lines) (r .dones) (r .marks) ⌝ }
+    ensures { λ r. ⌜ Lined slots table (r .lines) (r .dones) (r .marks) (r .dues) ⌝ }
 {
     let mut g = Stages {
         lines: [0; CLASS_PLACES],
         dones: [0; CLASS_PLACES],
         marks: [0; CLASS_PLACES],
+        dues: [1; CLASS_PLACES],
     };
     let mut at = 0;
     while at < SLOTS {
-        g.lines[at] = slots[at].number;
-        g.dones[at] = slots[at].done;
+        let n = slots[at].number;
+        let d = slots[at].done;
+        g.lines[at] = n;
+        g.dones[at] = d;
         g.marks[at] = slots[at].mark;
+        g.dues[at] = due(n, slots[at].count, d);
         at += 1;
     }
     let mut p = 0;
@@ -300,6 +318,50 @@ fn in_order<'a>(
     true
 }
 
+// The same number in 16 bits.
+fn wide(x: u8) -> u16
+    ensures { λ r. ⌜ (r ≡ x) × (r ≤ 255) ⌝ }
+{
+    x as u16
+}
+
+// The work calls that the confirmed part of a queue takes which begins at a.
+fn sum_of<'a>(dues: &'a [u8; CLASS_PLACES], queue: &'a [u8; PLACES], a: usize, len: usize) -> u16
+    requires { ⌜ (a + len ≤ placeCount) × (len ≤ 136) × Named (now queue) a len ⌝ }
+    ensures { λ r. ⌜ r ≡ sumOf (nth (now (dues .entry))) (now (queue .entry)) a len ⌝ }
+{
+    let mut w: u16 = 0;
+    let mut p = 0;
+    while p < len {
+        let i = queue[a + p] as usize;
+        w = w + wide(dues[i]);
+        p += 1;
+    }
+    w
+}
+
+// The sum that stands with each class is that of its confirmed part.
+fn sums_right<'a>(
+    dues: &'a [u8; CLASS_PLACES],
+    queue: &'a [u8; PLACES],
+    lens: &'a [u8; CLASSES],
+    sums: &'a [u16; CLASSES],
+) -> bool
+    requires { ⌜ Short (now lens) × InRange (now queue) (now lens) ⌝ }
+    ensures { λ r. ⌜ Decides r (SumsIn (nth (now (dues .entry))) (now (queue .entry)) (now (lens .entry)) (now (sums .entry))) ⌝ }
+{
+    let mut c = 0;
+    while c < CLASSES {
+        let len = lens[c] as usize;
+        let w = sum_of(dues, queue, CLASS_PLACES * c, len);
+        if sums[c] != w {
+            return false;
+        }
+        c += 1;
+    }
+    true
+}
+
 // A place of queries that is free is all zero.
 fn free_zero(table: [Query; QUERIES]) -> bool
     ensures { λ r. ⌜ Decides r (FreeIn table) ⌝ }
@@ -328,7 +390,7 @@ fn numbered(lines: &[u32; CLASS_PLACES]) -> u32
     n
 }
 
-// Whether the gathered fields, the queue places, the classes' lengths, the queries and the map keep their rules, after `top` confirmations; and
+// Whether the gathered fields, the queue places, the classes' lengths and sums, the queries and the map keep their rules, after `top` confirmations; and
 // "the count of confirmations equals the count of commits plus the confirmed requests queued".
 fn agree<'a>(
     ids: &'a [u32; SLOTS],
@@ -336,8 +398,10 @@ fn agree<'a>(
     lines: &'a [u32; CLASS_PLACES],
     dones: &'a [u8; CLASS_PLACES],
     marks: &'a [u8; CLASS_PLACES],
+    dues: &'a [u8; CLASS_PLACES],
     queue: &'a [u8; PLACES],
     lens: &'a [u8; CLASSES],
+    sums: &'a [u16; CLASSES],
     table: [Query; QUERIES],
     low: u64,
     high: u64,
@@ -345,7 +409,7 @@ fn agree<'a>(
     commits: u32,
 ) -> bool
     requires { ⌜ (length (now queue) ≡ placeCount) × (length table ≡ queryCount) × Classed (nth (now classes)) × Unnumbered (nth (now ids)) (nth (now lines)) ⌝ }
-    ensures { λ r. ⌜ Decides r (LaidOut (nth (now (ids .entry))) (nth (now (classes .entry))) (nth (now (lines .entry))) (nth (now (lines .entry))) (nth (now (dones .entry))) (nth (now (marks .entry))) (now (queue .entry)) (now (lens .entry)) table low high top commits) ⌝ }
+    ensures { λ r. ⌜ Decides r (LaidOut (nth (now (ids .entry))) (nth (now (classes .entry))) (nth (now (lines .entry))) (nth (now (lines .entry))) (nth (now (dones .entry))) (nth (now (marks .entry))) (nth (now (dues .entry))) (now (queue .entry)) (now (lens .entry)) (now (sums .entry)) table low high top commits) ⌝ }
 {
     if !free_zero(table) {
         return false;
@@ -368,6 +432,9 @@ fn agree<'a>(
     if !in_order(lines, dones, marks, queue, lens, top) {
         return false;
     }
+    if !sums_right(dues, queue, lens, sums) {
+        return false;
+    }
     let n = numbered(lines);
     (commits as u64) + (n as u64) == top as u64
 }
@@ -385,8 +452,10 @@ pub fn laid_out<'a>(
     lines: &'a [u32; CLASS_PLACES],
     dones: &'a [u8; CLASS_PLACES],
     marks: &'a [u8; CLASS_PLACES],
+    dues: &'a [u8; CLASS_PLACES],
     queue: [u8; PLACES],
     lens: [u8; CLASSES],
+    sums: [u16; CLASSES],
     table: [Query; QUERIES],
     low: u64,
     high: u64,
@@ -394,7 +463,7 @@ pub fn laid_out<'a>(
     commits: u32,
 ) -> Laid
     requires { ⌜ Classed (nth (now classes)) × Unnumbered (nth (now ids)) (nth (now lines)) ⌝ }
-    ensures { λ r. ⌜ Decides (r .ok) (LaidOut (nth (now (ids .entry))) (nth (now (classes .entry))) (nth (now (lines .entry))) (nth (now (lines .entry))) (nth (now (dones .entry))) (nth (now (marks .entry))) queue lens table low high top commits) × Heads queue lens (r .heads) ⌝ }
+    ensures { λ r. ⌜ Decides (r .ok) (LaidOut (nth (now (ids .entry))) (nth (now (classes .entry))) (nth (now (lines .entry))) (nth (now (lines .entry))) (nth (now (dones .entry))) (nth (now (marks .entry))) (nth (now (dues .entry))) queue lens sums table low high top commits) × Heads queue lens (r .heads) ⌝ }
 {
     let ok = agree(
         ids,
@@ -402,8 +471,10 @@ pub fn laid_out<'a>(
         lines,
         dones,
         marks,
+        dues,
         &queue,
         &lens,
+        &sums,
         table,
         low,
         high,

@@ -12,7 +12,7 @@ use lib.Seq.{take-append-seam}
 use borrow.Author.Tests.{eqb-true, eqb-false, eq-eqb, lt-ltb, le-ltb, not-false}
 use Rattle.plain.specs.Ops.{Request, runAll}
 use Rattle.plain.specs.Queue.{Item, booking, reading, idIs, placeIs, isConfirmed, line, left, asks, asked, any, count, firstOf, upTo}
-use Rattle.plain.specs.Queue.{has, entryOf, owed, confirmedPart, costs, beforeWaiting}
+use Rattle.plain.specs.Queue.{has, entryOf, owed, confirmedPart, costs, confirmedCosts, beforeWaiting}
 use Rattle.plain.specs.Steps.{Class, Did, Answer, toDo, entry, begun, ending, backed, offerStep, queryOn, queryStep}
 use Rattle.plain.specs.Site.{Site, Call, offer, work, confirm, read, look, query, call, act, accepts, refusal, standing, classOf, confirmedAt, entryAt}
 use Rattle.plain.specs.Site.{Outcome, named, isOpen, freePlace, lookAnswer}
@@ -79,7 +79,7 @@ module _ (s : Site) (w : SoundSite s) (m : ℕ) (a : accepts s (query m) ≡ tru
       (λ f. f)
 
   begun-due : Due (call s (query m) .site .class c) (placeIs p) (s .confirmations) 0 (runAll (s .class c .committed) (asked (confirmedPart q))) (suc (ahead s c))
-  unfolding call act
+  unfolding call act confirmedCosts
   begun-due =
       let j = query-both s w m c a (named-below m c t) in
       rw (a, t) (record {

@@ -8,7 +8,7 @@ use mathlib.Core.List.{List, [], _∷_, _++_}
 use lib.ListN.{length, take}
 use Rattle.plain.specs.Ops.{Request, runAll}
 use Rattle.plain.specs.Record.{requestIn}
-use Rattle.plain.specs.Queue.{Entry, booking, reading, idOf, isExecuted, isConfirmed, left, placeIs, entryOf, firstOf, upTo, confirmedPart, costs}
+use Rattle.plain.specs.Queue.{Entry, booking, reading, idOf, isExecuted, isConfirmed, left, placeIs, entryOf, firstOf, upTo, confirmedCosts}
 use Rattle.plain.specs.Steps.{Answer, refused, queued, stepped, executed, committed, waiting, value, toDo, unconfirmed, begun, entry}
 use Rattle.plain.specs.Site.{Site, Call, Outcome, offer, work, confirm, read, look, query, zeros, call, accepts, refusal}
 use Rattle.plain.specs.Site.{classOf, isFree, isQueued, isKept, isOpen, named}
@@ -201,7 +201,7 @@ pub record LowestFree (s : Site) (place : ℕ) : Type 0 where
 
 -- the work calls still to do for class c by what stands confirmed there: its confirmed requests and the entries of queries
 abbrev pub ahead : Site → ℕ → ℕ
-ahead s c = costs (confirmedPart (s .class c .queue))
+ahead s c = confirmedCosts (s .class c .queue)
 
 -- the cells of class c got by running one after another, from zeros, its requests that were confirmed in a history: those with the numbers up to its
 -- count of confirmations (the laws counted and taken-before)

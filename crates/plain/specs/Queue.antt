@@ -136,6 +136,10 @@ abbrev pub costs : List Item → ℕ
 costs [] = 0
 costs (x ∷ q) = left x + costs q
 
+-- the operations and query entries still to do by the confirmed part of a queue
+unfoldable pub confirmedCosts : List Item → ℕ
+confirmedCosts q = costs (confirmedPart q)
+
 -- the queue with e directly before the first waiting one
 abbrev pub beforeWaiting : Item → List Item → List Item
 beforeWaiting e [] = e ∷ []

@@ -7,7 +7,7 @@ use mathlib.Core.Option.{none, some}
 use mathlib.Core.List.{List, _∷_, _++_}
 use lib.Dec.{ltb}
 use lib.ListN.{take}
-use Rattle.plain.specs.Queue.{placeIs, confirmedPart, costs}
+use Rattle.plain.specs.Queue.{placeIs, confirmedCosts}
 use Rattle.plain.specs.Sound.{SoundSite}
 use Rattle.plain.specs.Steps.{Class, Answer, refused, entry, toDo}
 use Rattle.plain.specs.Site as P
@@ -53,7 +53,7 @@ queried {h} {x} {y} {m} {a} f e t = record {
   place = p .place;
   says = answers f e ∙ p .says;
   lowest-free = free-there (plainOf x) (after h) (p .place) before (p .lowest-free);
-  later = λ c k g z r l. later c k g z r (works-counted ready same c r) (ap (λ (q : Class). costs (confirmedPart (q .queue))) (before .class c (named-below m c k))) l;
+  later = λ c k g z r l. later c k g z r (works-counted ready same c r) (ap (λ (q : Class). confirmedCosts (q .queue)) (before .class c (named-below m c k))) l;
 }
   where
     before : Same (plainOf x) (after h)

@@ -51,4 +51,5 @@ shaped s vs g =
       kept = sym (length-map (s .kept) _) ∙ g .1 .1 .1 .1 .1 .1 .1 .1 .1 .0 .1 .0 .1;
       queries = sym (length-map (s .queries) _) ∙ g .1 .1 .1 .1 .1 .1 .1 .1 .1 .1 .0 .1 .0 .1;
       masks = each-mask (s .queries) _ (g .1 .1 .1 .1 .1 .1 .1 .1 .1 .1 .0 .1 .1);
+      sums = sym (length-map (s .sums) _) ∙ g .1 .1 .1 .1 .1 .1 .1 .1 .1 .1 .1 .1 .0 .1 .0 .1;
     }

@@ -32,6 +32,7 @@ store s = record {
   kept = s .kept;
   queries = s .queries;
   begun = s .begun;
+  sums = s .sums;
 }
 
 -- a site with its two runs of cells

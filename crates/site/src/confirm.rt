@@ -79,7 +79,7 @@ impl Site {
     }
 
     // Slot i.
-    pub(crate) fn slot(self, i: usize) -> Slot
+    fn slot(self, i: usize) -> Slot
         requires { ⌜ i < 128 ⌝ }
         ensures { λ r. ⌜ r ≡ slotAt (self .slots) i ⌝ }
     {
@@ -98,7 +98,8 @@ impl Site {
         v.done == v.count
     }
 
-    // Confirms the request in slot i, which waits and is no executed head: it moves forward from one place to another.
+    // Confirms the request in slot i, which waits and is no executed head: it moves forward from one place to another. W is the class's sum with what the
+    // request still takes, and becomes the sum.
     fn confirm_later(
         mut self,
         committed: &[u32],
@@ -114,29 +115,30 @@ impl Site {
         let v = self.slots[i];
         let c = v.class as usize;
         let first = self.queue[CLASS_PLACES * c] as usize;
+        let left = v.count - v.done;
+        let w = self.sums[c] + (left as u16);
+        self.sums[c] = w;
         if first != i {
             if to == 0 {
                 let head = self.slots[first];
                 self = self.put_back(committed, working, c);
                 self = self.forward(c, i, from, to);
-                let w = self.to_do(c, i);
                 return Reply {
                     site: self,
                     answer: Answer::Waiting {
                         id: v.id,
-                        w: w,
+                        w: w as u32,
                         back: head.id,
                     },
                 };
             }
         }
         self = self.forward(c, i, from, to);
-        let w = self.to_do(c, i);
         Reply {
             site: self,
             answer: Answer::Waiting {
                 id: v.id,
-                w: w,
+                w: w as u32,
                 back: 0,
             },
         }

@@ -47,6 +47,7 @@ pub struct Site {
     pub kept: [u32; KEPT],
     pub queries: [Query; 8],
     pub begun: u32,
+    pub sums: [u16; 16],
 }
 
 // What a call answers; document 01's number and values for each case are in specs/Held.
@@ -126,6 +127,7 @@ impl Site {
             kept: [0; KEPT],
             queries: [none; 8],
             begun: 0,
+            sums: [0; 16],
         };
         if committed.len() != RUN {
             return Fresh {
@@ -165,14 +167,17 @@ impl Site {
         }
         let queue = self.queue;
         let lens = self.lens;
+        let sums = self.sums;
         let laid = laid_out(
             &o.ids,
             &o.classes,
             &g.lines,
             &g.dones,
             &g.marks,
+            &g.dues,
             queue,
             lens,
+            sums,
             table,
             self.low,
             self.high,

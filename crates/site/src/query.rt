@@ -57,6 +57,7 @@ impl Site {
             if names(mask, c as u32) {
                 let to = firsts[c];
                 let len = self.lens[c];
+                let sum = self.sums[c];
                 if to == 0 {
                     if len != 0 {
                         cells::copy_class(working, committed, c);
@@ -70,6 +71,7 @@ impl Site {
                 places::move_forward(&mut self.queue, c, len as usize, to);
                 let q = self.queries[p];
                 self.queries[p] = with(q, c as u32, self.confirmations);
+                self.sums[c] = sum + 1;
             }
             c += 1;
         }

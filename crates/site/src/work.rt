@@ -1,7 +1,8 @@
 // Work: the head of a class does its next operation, and commits when it has done its last and is confirmed; a head that is an entry of a query is read.
+ghost use mathlib.Core.Path.{_≡_};
 ghost use Prim.Native.Nat.{_<_, _≤_};
 ghost use Rattle.plain.specs.Site.{work};
-ghost use Rattle.store.specs.Steps.{Commitable, CommitDone};
+ghost use Rattle.store.specs.Steps.{Commitable, CommitDone, oneLess};
 ghost use Rattle.plain.specs.Decides.{Decides};
 ghost use Rattle.store.specs.Meaning.{cellsOf};
 ghost use Rattle.store.specs.Calls.{Did, Called};
@@ -48,6 +49,19 @@ fn worked(v: Slot, s: u8) -> Answer
         slot: s,
         backs: v.backs,
     }
+}
+
+// The sum of a class after a work call of a head with this number: one less, not below 0, where it is confirmed.
+fn one_less(sum: u16, number: u32) -> u16
+    ensures { λ r. ⌜ r ≡ oneLess sum number ⌝ }
+{
+    if number == 0 {
+        return sum;
+    }
+    if sum == 0 {
+        return 0;
+    }
+    sum - 1
 }
 
 impl Site {
@@ -101,7 +115,7 @@ impl Site {
     }
 
     // The head of class c does its next operation, and commits if that was its last and it is confirmed. An entry of a query is read and leaves; its
-    // query's place is free where it was the last.
+    // query's place is free where it was the last. The class's sum is one less where the head is confirmed or an entry.
     fn work_head(mut self, committed: &mut [u32], working: &mut [u32], c: usize) -> Reply
         requires { ⌜ MayWork (stateOf self (now committed) (now working)) c ⌝ }
         ensures { λ r. ⌜ Did (stateOf self (now (committed .entry)) (now (working .entry))) (work c) (stateOf (r .site) (now (committed .exit)) (now (working .exit))) (answerOf (r .answer) (cellsOf (now (committed .exit)) c)) ⌝ }
@@ -114,6 +128,7 @@ impl Site {
             let len = self.lens[c];
             places::take_head(&mut self.queue, c, len as usize);
             self.lens[c] = len - 1;
+            self.sums[c] = one_less(self.sums[c], 1);
             return Reply {
                 site: self,
                 answer: Answer::Entry { place: p + 1 },
@@ -125,6 +140,7 @@ impl Site {
         let b = a + cells::CELLS;
         let u = step(v, &committed[a..b], &mut working[a..b]);
         self.slots[i] = u;
+        self.sums[c] = one_less(self.sums[c], v.number);
         if commits(u) {
             self = self.commit(committed, &*working, c);
         }

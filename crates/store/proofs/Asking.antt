@@ -94,10 +94,12 @@ module _ (x : State) (w : Shaped (x .site)) (r : RightCells x) (q : SoundState x
       only : (y : ℕ) → y < 128 → 0 < times y (places s (u .class)) → slotAt (s .slots) y .id ≡ u .id → y ≡ j
       only y l k d = one-id (λ i. slotAt (s .slots) i .id) (q .ids-differ) y j l m (omega arith) d
 
+      -- it stands in the queue of its class
+      pub stands-there : 0 < times j (places s (u .class))
+      stands-there = omega (arith, there s w (q .laid) (x .committed) (x .working) j m held)
+
       pub entry : Q.entryOf n (queueOf s (u .class)) ≡ some (Q.booking (entryOf j u))
-      entry =
-          let t = there s w (q .laid) (x .committed) (x .working) j m held in
-          rw (← e) (first-at (s .slots) (s .queries) j (places s (u .class)) m (omega arith) only)
+      entry = rw (← e) (first-at (s .slots) (s .queries) j (places s (u .class)) m stands-there only)
 
       answers : (a : K.Answer) → S.lookAnswer n (plainClass s (x .committed) (x .working) (u .class)) ≡ a → Did x (S.look n) x a
       unfolding S.refusal S.act plain

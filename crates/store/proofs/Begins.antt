@@ -27,6 +27,7 @@ use Rattle.store.specs.Steps.{FirstsWaiting}
 use Rattle.store.specs.Calls.{State, RightCells, SoundState, plainOf, Did}
 use Rattle.store.proofs.Canonical.{places-length}
 use Rattle.store.proofs.Confirmed.{split-order}
+use Rattle.store.proofs.Ending.{sum-bounded}
 use Rattle.store.proofs.Meant.{to-plain}
 use Rattle.store.proofs.Moving.{Confirmed}
 use Rattle.store.proofs.Offered.{accepted-call}
@@ -46,6 +47,7 @@ counted s = record {
   kept = s .kept;
   queries = s .queries;
   begun = s .begun + 1;
+  sums = s .sums;
 }
 
 -- an entry makes a queue one longer
@@ -90,6 +92,7 @@ module _ (x : State) (w : Shaped (x .site)) (r : RightCells x) (q : SoundState x
       queue-short (S.call (plainOf x) (S.query m) .site) (call-sound (plainOf x) (S.query m) sound-x) d l,
       ap (λ (k : Class). length (k .queue)) (after d t) ∙ stepped d,
     );
+    few = λ d l. omega (arith, sum-bounded x w r q d l);
   }
     where
       sound-x : SoundSite (plainOf x)
@@ -139,6 +142,7 @@ module _ (x : State) (w : Shaped (x .site)) (r : RightCells x) (q : SoundState x
         kept = w .kept;
         queries = w .queries;
         masks = w .masks;
+        sums = w .sums;
       };
       cells = r .1;
       backs = λ i l. omega (arith, q .backs-bounded i l);
@@ -152,5 +156,5 @@ module _ (x : State) (w : Shaped (x .site)) (r : RightCells x) (q : SoundState x
         let last : c ≡ 16 = omega arith in
         let u : After t wrk′ 16 = subst (After t wrk′) last after in
         let place : S.freePlace (plainOf x) ≡ suc p = taken .1 ∙ ap suc (sym is) in
-        rw (add-one p) (query-did x (record { site = t; committed = x .committed; working = wrk′ }) w m p r (r .0, u .cells) q (counted (x .site)) (refl, refl, refl, refl)
+        rw (add-one p) (query-did x (record { site = t; committed = x .committed; working = wrk′ }) w m p r (r .0, u .cells) q (counted (x .site)) (refl, refl, refl, refl, refl)
         (λ d l. refl) place (taken .0) (u .shape .slots, u .shape .queries) refl (u .upto))

@@ -27,7 +27,7 @@ use Rattle.store.proofs.Masks.{mask-inj, some-named}
 use Rattle.store.specs.Checks.{InUse, Spare}
 use Rattle.store.specs.Meaning.{Same, itemAt, items, lenOf, places, plain, plainClass}
 use Rattle.store.proofs.KeptIds.{place-of}
-use Rattle.store.specs.Sound.{Laid, stands, standsAt, times}
+use Rattle.store.specs.Sound.{Laid, SumsOk, stands, standsAt, times}
 use Rattle.queries.specs.declared.Query.{Query}
 use Rattle.queries.specs.Table.{freeQuery}
 use Rattle.store.specs.Store.{Shaped, Store, queryAt}
@@ -247,9 +247,13 @@ module _ (s t : Store) (base wrk base′ wrk′ : List ℕ) (v : Shaped s) (w : 
   same-kept : s .kept ≡ t .kept
   same-kept = ext-getD 0 (s .kept) (t .kept) (omega (arith, v .kept, w .kept)) (λ p l. same-kept-at p (omega (arith, v .kept)))
 
-  pub canonical : s ≡ t
+  same-sums : SumsOk s → SumsOk t → s .sums ≡ t .sums
+  same-sums a b = ext-getD 0 (s .sums) (t .sums) (omega (arith, v .sums, w .sums)) (λ c l.
+      let k : c < 16 = omega (arith, v .sums) in a c k ∙ ap Q.confirmedCosts (queues c k) ∙ sym (b c k))
+
+  pub canonical : SumsOk s → SumsOk t → s ≡ t
   unfolding plain
-  canonical = λ i. record {
+  canonical a b = λ i. record {
     slots = same-slots i;
     queue = same-queue i;
     lens = same-lens i;
@@ -260,6 +264,7 @@ module _ (s t : Store) (base wrk base′ wrk′ : List ℕ) (v : Shaped s) (w : 
     kept = same-kept i;
     queries = same-queries i;
     begun = e .queries i;
+    sums = same-sums a b i;
   }
 
   -- and the cells

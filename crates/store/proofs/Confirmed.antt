@@ -8,12 +8,13 @@ use mathlib.Core.Bool.{true, false, and-false}
 use mathlib.Core.Option.{some}
 use mathlib.Core.List.{List, [], _∷_}
 use lib.Dec.{eqb, ltb}
-use lib.ListN.{length, getD, take, drop, length-set}
-use borrow.Author.Tests.{eq-eqb, ne-eqb, lt-ltb, le-ltb, lt-leb, ltb-true, ltb-false}
+use lib.ListN.{length, getD, take, drop, set, length-set}
+use lib.Seq.{getD-set-same, getD-set-other}
+use borrow.Author.Tests.{eqb-true, eqb-false, eq-eqb, ne-eqb, lt-ltb, le-ltb, lt-leb, ltb-true, ltb-false}
 use Rattle.plain.specs.Queue as Q
 use Rattle.plain.specs.Steps as K
 use Rattle.plain.specs.Site as S
-use Rattle.plain.specs.Sound.{All, Waiting, InOrder}
+use Rattle.plain.specs.Sound.{All, Waiting, InOrder, SoundSite}
 use Rattle.plain.proofs.Tests.{by-test, no}
 use Rattle.plain.proofs.Items.{follows-confirmed, waiting-unconfirmed}
 use Rattle.plain.proofs.Queues.{waits-all}
@@ -25,7 +26,7 @@ use Rattle.store.specs.Store.{Store, Shaped}
 use Rattle.store.specs.Meaning.{lenOf, places, itemAt, items, queueOf, cellsOf, plain, plainClass, Same}
 use Rattle.store.specs.Sound.{times, Laid, Apart}
 use Rattle.store.specs.Calls.{State, RightCells, SoundState, Did, plainOf}
-use Rattle.store.specs.Steps.{withSlot, headSlot, asPutBack, PutBack, PlaceOf, FirstWaiting, Forward}
+use Rattle.store.specs.Steps.{withSlot, withSums, headSlot, sumWith, asPutBack, PutBack, PlaceOf, FirstWaiting, Forward}
 use Rattle.store.proofs.Canonical.{has-id, places-length, slot-item, slot-stands}
 use Rattle.store.proofs.Walk.{place-at}
 use Rattle.store.proofs.Relaid.{by-slot, elsewhere, items-kept}
@@ -34,10 +35,13 @@ use Rattle.store.proofs.Confirm.{back-queue, holds-kept}
 use Rattle.store.proofs.Commit.{head-is, stands-class}
 use Rattle.store.proofs.Promise.{sound-kept, same-trans}
 use Rattle.store.proofs.Asked.{there, one-id}
-use Rattle.store.proofs.Confirming.{outcome, class-here, held}
-use Rattle.store.proofs.Work.{kept-laid, same-in, head-held}
+use Rattle.store.proofs.Asking.{entry}
+use Rattle.store.proofs.Confirming.{accepted, outcome, class-here, held}
+use Rattle.store.proofs.Meant.{to-plain}
+use Rattle.store.proofs.Summed.{wait-sum, wait-left}
+use Rattle.store.proofs.Work.{kept-laid, laid-sums, same-in, head-held}
 use Rattle.slots.proofs.Records.{ops-count}
-use Rattle.store.proofs.Forward.{kept, forward-laid, forward-queue, forward-means}
+use Rattle.store.proofs.Forward.{forward-laid, forward-means}
 
 -- the confirmed part and the waiting part of a queue in order, by the first place that waits
 pub split-order : (l : List Slot) (qs : List Query) (m top : ℕ) (ps : List ℕ) (to : ℕ) → InOrder m top (items l qs ps) → to ≤ length ps
@@ -71,6 +75,7 @@ kept-shaped s w i u m n e = record {
   kept = w .kept;
   queries = w .queries;
   masks = w .masks;
+  sums = w .sums;
 }
   where
     inside : i < length (s .slots)
@@ -172,42 +177,60 @@ module _ (x : State) (w : Shaped (x .site)) (r : RightCells x) (q : SoundState x
   called : S.call p k ≡ S.inClass p c (some id) (K.confirmStep id n (p .class c))
   called = outcome x w r q id n (f .more) (f .next) i (f .small) (f .is) (f .positive) (f .waits)
 
-  -- what is answered once the step is known, and the site that it leaves is sound
+  -- what is answered once the step is known: W is the sum of the class with what the request still takes, and it is the class's new sum
   pub record Goes (t : Store) (wrk′ : List ℕ) (back : ℕ) : Type 0 where
-    pub sound : SoundState (record { site = t; committed = base; working = wrk′ })
-    pub same-id : slotAt (t .slots) i .id ≡ id
-    pub answers : (W : ℕ) → W ≡ Q.owed (slotAt (t .slots) i .id) (queueOf t c)
-        → Did x k (record { site = t; committed = base; working = wrk′ }) (K.waiting id W back)
+    pub answers : (W : ℕ) → W ≡ sumWith s c i
+        → Did x k (record { site = withSums t (set (t .sums) c W); committed = base; working = wrk′ }) (K.waiting id W back)
 
-  goes : (t : Store) (wrk′ : List ℕ) (back : ℕ) (queue : List Q.Item) → length wrk′ ≡ 1024 → length (t .slots) ≡ 128 → t .queries ≡ s .queries → slotAt (t .slots) i .id ≡ id → Laid t
+  goes : (t : Store) (wrk′ : List ℕ) (back : ℕ) (queue : List Q.Item) → length wrk′ ≡ 1024 → length (t .slots) ≡ 128 → t .queries ≡ s .queries → t .sums ≡ s .sums → Laid t
       → K.confirmStep id n (p .class c) ≡ K.told id back queue (cellsOf base c) (cellsOf wrk′ c)
-      → queueOf t c ≡ queue → Same (plain t base wrk′) (S.inClass p c (some id) (K.told id back queue (cellsOf base c) (cellsOf wrk′ c)) .site)
+      → Same (plain t base wrk′) (S.inClass p c (some id) (K.told id back queue (cellsOf base c) (cellsOf wrk′ c)) .site)
       → Goes t wrk′ back
-  goes t wrk′ back queue n′ m qs kept-id h step is same = record {
-    sound = stays-sound;
-    same-id = kept-id;
-    answers = λ W e. record {
-      cells = (r .0, n′);
-      sound = stays-sound;
-      site = rw o same;
-      answer = rw o (ap (λ (z : ℕ). K.waiting id z back) (e ∙ rw (kept-id, is)));
-    };
+  goes t wrk′ back queue n′ m qs ss h step same = record {
+    answers = λ W e. let says : S.call p k .answer ≡ K.waiting id W back = rw o (ap (λ (z : ℕ). K.waiting id z back) (answered ∙ sym e)) in
+        record {
+          cells = (r .0, n′);
+          sound = sound-kept x (record { site = withSums t (set (t .sums) c W); committed = base; working = wrk′ }) k w m (ap length qs ∙ w .queries) q
+              (laid-sums t (set (t .sums) c W) h) (same-sums W) (sums-right W says);
+          site = same-sums W;
+          answer = sym says;
+        };
   }
     where
       o : S.call p k ≡ S.inClass p c (some id) (K.told id back queue (cellsOf base c) (cellsOf wrk′ c))
       o = called ∙ ap (S.inClass p c (some id)) step
 
-      stays-sound : SoundState (record { site = t; committed = base; working = wrk′ })
-      stays-sound = sound-kept x (record { site = t; committed = base; working = wrk′ }) k w m (ap length qs ∙ w .queries) q h (rw o same)
+      class-is-c : S.classOf p id ≡ c
+      class-is-c = class-here x w r q id n (f .more) (f .next) i (f .small) (f .is) (f .positive) .0
+
+      taken : S.accepts p k ≡ true
+      taken = rw (accepted x w r q id n (f .more) (f .next) i (f .small) (f .is) (f .positive) (f .waits))
+
+      sound-p : SoundSite p
+      sound-p = to-plain s (w .slots) (w .queries) (q .laid) base wrk q
+
+      answered : Q.owed id queue ≡ sumWith s c i
+      answered =
+          wait-left p sound-p id n taken id (Q.owed id queue) back (rw o) (Q.booking (entryOf i v)) (rw class-is-c (unfold plain plainClass in (entry x w r q id i (f .small) (f .is) (f .positive))))
+          ∙ rw class-is-c (unfold plain plainClass in (rw (q .sums-right c class-small, ops-count v (w .ops i (f .small)) holds)))
+
+      same-sums : (W : ℕ) → Same (plain (withSums t (set (t .sums) c W)) base wrk′) (S.call p k .site)
+      same-sums W = unfold plain plainClass in (rw o same)
+
+      sums-right : (W : ℕ) → S.call p k .answer ≡ K.waiting id W back → (e : ℕ) → e < 16
+          → getD (set (t .sums) c W) e 0 ≡ Q.confirmedCosts (S.call p k .site .class e .queue)
+      sums-right W says e l =
+          rw (ss, wait-sum p sound-p id n taken id W back says e, class-is-c)
+          (by-test (eqb e c)
+          (λ t. rw (eqb-true e c t, eq-eqb c c refl) (getD-set-same (s .sums) c W 0 (omega (arith, w .sums, class-small))))
+          (λ g. rw g (getD-set-other (s .sums) c e W 0 (eqb-false e c g) ∙ unfold plain plainClass in (q .sums-right e l))))
 
   -- THE HEAD STAYS: it is the request itself, not executed, or it is confirmed
   module _ (t : Store) (d : Forward s c i n from to t) where
     moves : K.confirmStep id n (p .class c) ≡ K.told id 0 (K.moved id n (queueOf s c)) (cellsOf base c) (cellsOf wrk c) → Goes t wrk 0
     moves step =
-        goes t wrk 0 (K.moved id n (queueOf s c)) (r .1) (ap length (d .slots) ∙ length-set (s .slots) i _ ∙ w .slots) (d .queries)
-        (kept s t w (q .laid) c i n from to class-small refl holds (f .place) forward (f .next) d i .0 ∙ f .is)
+        goes t wrk 0 (K.moved id n (queueOf s c)) (r .1) (ap length (d .slots) ∙ length-set (s .slots) i _ ∙ w .slots) (d .queries) (d .sums)
         (forward-laid s t w (q .laid) c i n from to class-small refl holds (f .place) forward (f .next) d) step
-        (forward-queue s t w (q .laid) c i n from to class-small refl holds (f .place) forward (f .next) d (q .ids-differ) (parts .0) (parts .1) ∙ ap (λ (z : ℕ). K.moved z n (queueOf s c)) (f .is))
         (subst (λ (z : ℕ). Same (plain t base wrk) (S.inClass p c (some z) (K.told z 0 (K.moved z n (queueOf s c)) (cellsOf base c) (cellsOf wrk c)) .site)) (f .is)
         (forward-means s t w (q .laid) c i n from to class-small refl holds (f .place) forward (f .next) d (q .ids-differ) (parts .0) (parts .1) base wrk 0))
 
@@ -343,11 +366,8 @@ module _ (x : State) (w : Shaped (x .site)) (r : RightCells x) (q : SoundState x
       goes₁ : Goes t wrk′ (u .id)
       unfolding told₁
       goes₁ = goes t wrk′ (u .id) (K.moved id n (queueOf a₁ c)) (b .cells)
-          (ap length (d .slots) ∙ length-set (a₁ .slots) i _ ∙ shaped₁ .slots) (d .queries)
-          (kept a₁ t shaped₁ laid₁ c i n from to class-small own₁ holds₁ place₁ forward (f .next) d i .0 ∙ is₁)
+          (ap length (d .slots) ∙ length-set (a₁ .slots) i _ ∙ shaped₁ .slots) (d .queries) (d .sums)
           (forward-laid a₁ t shaped₁ laid₁ c i n from to class-small own₁ holds₁ place₁ forward (f .next) d) step₁
-          (forward-queue a₁ t shaped₁ laid₁ c i n from to class-small own₁ holds₁ place₁ forward (f .next) d ids₁ (parts₁ .0) (parts₁ .1)
-          ∙ ap (λ (z : ℕ). K.moved z n (queueOf a₁ c)) is₁)
           (same-trans means₁ between)
 
     pub head-put-back : (t : Store) → Forward a c i n from to t → Goes t wrk′ (u .id)

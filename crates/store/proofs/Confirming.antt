@@ -6,7 +6,7 @@ use mathlib.Core.Bool.{and-false}
 use mathlib.Core.Option.{none, some}
 use mathlib.Core.List.{List, _∷_}
 use lib.Dec.{eqb, ltb}
-use lib.ListN.{length, take, drop, length-set}
+use lib.ListN.{length, take, drop, length-set, getD}
 use borrow.Author.Tests.{eqb-false, eq-eqb, ne-eqb, lt-ltb, le-ltb, le-leb, lt-leb, ltb-true, ltb-false}
 use Rattle.plain.specs.Queue as Q
 use Rattle.plain.specs.Steps as K
@@ -31,7 +31,8 @@ use Rattle.store.proofs.Promise.{sound-kept, same-trans}
 use Rattle.store.proofs.Offered.{not-done, accepted-call}
 use Rattle.store.proofs.Asked.{id-absent, there}
 use Rattle.store.proofs.Asking.{found, entry}
-use Rattle.store.proofs.Meant.{used-holds}
+use Rattle.store.proofs.Meant.{to-plain, used-holds}
+use Rattle.store.proofs.Summed.{commit-sum}
 use Rattle.store.proofs.Work.{kept-laid}
 use Rattle.slots.proofs.Records.{ops-count}
 
@@ -184,11 +185,15 @@ module _ (x : State) (w : Shaped (x .site)) (r : RightCells x) (q : SoundState x
                 record {
                   cells = (d .cells, r .1);
                   sound = sound-kept x (record { site = t; committed = base′; working = x .working }) k w
-                      (d .slots ∙ length-set (s .slots) i (withNumber n v) ∙ w .slots) (ap length (d .queries) ∙ w .queries) q (d .laid) z;
+                      (d .slots ∙ length-set (s .slots) i (withNumber n v) ∙ w .slots) (ap length (d .queries) ∙ w .queries) q (d .laid) z
+                      (λ e l. ap (λ (y : List ℕ). getD y e 0) (d .sums) ∙ sums-stay o e l);
                   site = z;
                   answer = rw o;
                 }
               where
+                sums-stay : S.call p k ≡ S.inClass p c (some id) done → (e : ℕ) → e < 16 → getD (s .sums) e 0 ≡ Q.confirmedCosts (S.call p k .site .class e .queue)
+                sums-stay o e l = unfold plain plainClass in (q .sums-right e l ∙ sym (commit-sum p (to-plain s (w .slots) (w .queries) (q .laid) (x .committed) (x .working) q) id n (rw accepted) (v .id) n (v .mark) i (v .backs) (rw o) e))
+
                 between : Same (S.inClass (plain s₁ (x .committed) (x .working)) c none (K.commit (Q.booking (K.withNumber n (entryOf i v))) (items (s₁ .slots) (s .queries) ps) (cellsOf (x .working) c)) .site)
                     (S.inClass p c (some id) done .site)
                 between = unfold plain plainClass in (record {

@@ -54,7 +54,7 @@ module _ (s : Store) (w : Shaped s) (c i : ℕ) (h : Countable s c) (small : i <
         used (inl z) = z .1 .used
         used (inr z) = absurd (omega (arith, z .0))
 
-    next-is : drop p (queueOf s c) ≡ itemAt (s .slots) (s .queries) y ∷ drop (suc p) (queueOf s c)
+    pub next-is : drop p (queueOf s c) ≡ itemAt (s .slots) (s .queries) y ∷ drop (suc p) (queueOf s c)
     next-is =
         drop-cons (queueOf s c) p (itemAt (s .slots) (s .queries) 0)
         (omega (arith, length-map (places s c) (itemAt (s .slots) (s .queries)), places-length s w (h .laid) c (h .class)))

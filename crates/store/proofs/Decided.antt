@@ -12,7 +12,7 @@ use Rattle.cells.specs.Ops.{OpOk, noOp}
 use Rattle.cells.specs.declared.Op.{Op}
 use Rattle.plain.proofs.Tests.{by-test, no}
 use Rattle.plain.specs.Ops.{markOf, leaves}
-use Rattle.plain.specs.Queue.{Item, booking, reading, opsOf, hasNumber, line, count}
+use Rattle.plain.specs.Queue.{Item, booking, reading, opsOf, hasNumber, line, count, confirmedCosts}
 use Rattle.plain.specs.Site.{sum, Recent}
 use Rattle.plain.specs.Sound.{All, soFar, Waiting, Follows, InOrder, Untouched, AtHead}
 use Rattle.plain.proofs.Queues.{all-map}
@@ -227,8 +227,8 @@ module _ (s : Store) (w : Shaped s) where
   pub sound-decided : (base wrk : List ℕ) → Decided (Sound s base wrk)
   sound-decided base wrk =
       same
-      (λ h. record { laid = h .0; ids-differ = h .1 .0; confirmed-before-waiting = h .1 .1 .0; numbers-differ = h .1 .1 .1 .0; counts-agree = h .1 .1 .1 .1 .0; backs-bounded = h .1 .1 .1 .1 .1 .0; only-a-head-done = h .1 .1 .1 .1 .1 .1 .0; working-cells-follow = h .1 .1 .1 .1 .1 .1 .1 .0; kept-not-zero = h .1 .1 .1 .1 .1 .1 .1 .1 .0; kept-differ = λ m n r q. h .1 .1 .1 .1 .1 .1 .1 .1 .1 .0 m r n q; kept-queued = h .1 .1 .1 .1 .1 .1 .1 .1 .1 .1 })
-      (λ h. (h .laid, (h .ids-differ, (h .confirmed-before-waiting, (h .numbers-differ, (h .counts-agree, (h .backs-bounded, (h .only-a-head-done, (h .working-cells-follow, (h .kept-not-zero, ((λ m r n q. h .kept-differ m n r q), h .kept-queued)))))))))))
+      (λ h. record { laid = h .0; ids-differ = h .1 .0; confirmed-before-waiting = h .1 .1 .0; numbers-differ = h .1 .1 .1 .0; counts-agree = h .1 .1 .1 .1 .0; backs-bounded = h .1 .1 .1 .1 .1 .0; only-a-head-done = h .1 .1 .1 .1 .1 .1 .0; working-cells-follow = h .1 .1 .1 .1 .1 .1 .1 .0; sums-right = h .1 .1 .1 .1 .1 .1 .1 .1 .0; kept-not-zero = h .1 .1 .1 .1 .1 .1 .1 .1 .1 .0; kept-differ = λ m n r q. h .1 .1 .1 .1 .1 .1 .1 .1 .1 .1 .0 m r n q; kept-queued = h .1 .1 .1 .1 .1 .1 .1 .1 .1 .1 .1 })
+      (λ h. (h .laid, (h .ids-differ, (h .confirmed-before-waiting, (h .numbers-differ, (h .counts-agree, (h .backs-bounded, (h .only-a-head-done, (h .working-cells-follow, (h .sums-right, (h .kept-not-zero, ((λ m r n q. h .kept-differ m n r q), h .kept-queued))))))))))))
       (and-then laid
       (λ _. and-then (apart 128 (λ i. slotAt (s .slots) i .id))
       (λ _. and-then (below (λ c. InOrder 0 (s .confirmations) (queueOf s c)) 16 (λ c _. order 0 (s .confirmations) (queueOf s c)))
@@ -237,11 +237,12 @@ module _ (s : Store) (w : Shaped s) where
       (λ _. and-then (below (λ i. slotAt (s .slots) i .backs ≤ s .confirmations + s .begun) 128 (λ i _. le (slotAt (s .slots) i .backs) (s .confirmations + s .begun)))
       (λ _. and-then (below (λ c. Rest (queueOf s c)) 16 (λ c _. rest (queueOf s c)))
       (λ _. and-then (below (λ c. Cells (queueOf s c) (cellsOf base c) (cellsOf wrk c)) 16 (λ c _. cells (queueOf s c) (cellsOf base c) (cellsOf wrk c)))
+      (λ _. and-then (below (λ c. getD (s .sums) c 0 ≡ confirmedCosts (queueOf s c)) 16 (λ c _. eq (getD (s .sums) c 0) (confirmedCosts (queueOf s c))))
       (λ _. and-then (recent (s .confirmations) (λ n. 0 < keptAt s n) (λ n. lt 0 (keptAt s n)))
       (λ _. and-then (recent (s .confirmations) (λ m. (n : ℕ) → Recent (s .confirmations) n → keptAt s m ≡ keptAt s n → m ≡ n)
       (λ m. recent (s .confirmations) (λ n. keptAt s m ≡ keptAt s n → m ≡ n) (λ n. when (eq (keptAt s m) (keptAt s n)) (λ _. eq m n))))
       (λ _. below (λ i. isUsed (slotAt (s .slots) i) ≡ true → (n : ℕ) → Recent (s .confirmations) n → (slotAt (s .slots) i .number ≡ n) ↔ (slotAt (s .slots) i .id ≡ keptAt s n)) 128
-      (λ i _. when (eq-flag (isUsed (slotAt (s .slots) i)) true) (λ _. matches (slotAt (s .slots) i .number) (slotAt (s .slots) i .id))))))))))))))
+      (λ i _. when (eq-flag (isUsed (slotAt (s .slots) i)) true) (λ _. matches (slotAt (s .slots) i .number) (slotAt (s .slots) i .id)))))))))))))))
     where
       matches : (number id : ℕ) → Decided ((n : ℕ) → Recent (s .confirmations) n → (number ≡ n) ↔ (id ≡ keptAt s n))
       matches number id = recent (s .confirmations) (λ n. (number ≡ n) ↔ (id ≡ keptAt s n))

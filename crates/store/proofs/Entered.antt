@@ -13,6 +13,7 @@ use Rattle.places.proofs.Shift.{moved-append}
 use Rattle.queries.specs.declared.Query.{Query}
 use Rattle.queries.specs.Table.{Grown, freeQuery}
 use Rattle.store.specs.Store.{Store, Shaped, queryAt}
+use Rattle.store.specs.Steps.{withEntry}
 use Rattle.store.specs.Meaning.{lenOf, places}
 use Rattle.store.specs.Sound.{Laid}
 use Rattle.store.proofs.Canonical.{part-is, places-length}
@@ -31,7 +32,8 @@ last-moved ps b to k = rw (take-append-le to ps (b ∷ []) k, take-at ps (b ∷ 
     none [] = refl
     none (x ∷ l) = rw (none l)
 
--- what the code leaves of the site s: behind class c's queue, of `len` places, the entry was written, and moved to place `to`; its query is v
+-- what the code leaves of the site s: behind class c's queue, of `len` places, the entry was written, and moved to place `to`; its query is v; the class's
+-- sum is one more
 pub record Written (s t : Store) (c p to len : ℕ) (v : Query) : Type 0 where
   pub queue : Moved (set (s .queue) (136 * c + len) (128 + p)) (t .queue) c len to
   pub lens : t .lens ≡ set (s .lens) c (len + 1)
@@ -40,6 +42,7 @@ pub record Written (s t : Store) (c p to len : ℕ) (v : Query) : Type 0 where
   pub map-same : (t .low ≡ s .low) × (t .high ≡ s .high)
   pub counts : (t .confirmations ≡ s .confirmations) × (t .commits ≡ s .commits) × (t .begun ≡ s .begun)
   pub kept : t .kept ≡ s .kept
+  pub sums : t .sums ≡ set (s .sums) c (withEntry (getD (s .sums) c 0))
 
 module _ (s t : Store) (w : Shaped s) (h : Laid s) (c p to : ℕ) (v : Query) (l : c < 16) (k : p < 8) (room : lenOf s c < 136) (fits : to ≤ lenOf s c) (e : Written s t c p to (lenOf s c) v) where
   abbrev ps : List ℕ
@@ -122,4 +125,5 @@ module _ (s t : Store) (w : Shaped s) (h : Laid s) (c p to : ℕ) (v : Query) (l
     masks = λ j. rw (e .queries) (by-test (eqb j p)
         (λ y. let is : j ≡ p = eqb-true j p y in rw (is, getD-set-same (s .queries) p v freeQuery (omega (arith, w .queries))) small)
         (λ f. rw (getD-set-other (s .queries) p j v freeQuery (eqb-false j p f)) (w .masks j)));
+    sums = rw (e .sums) (length-set (s .sums) c (withEntry (getD (s .sums) c 0)) ∙ w .sums);
   }

@@ -6,7 +6,7 @@ use mathlib.Core.Logic.{_⊎_, inr}
 use mathlib.Core.Bool.{true, false, and-false}
 use mathlib.Core.Option.{some}
 use mathlib.Core.List.{List, [], map}
-use lib.ListN.{length, getD, take, drop, take-append-drop}
+use lib.ListN.{length, getD, take, drop}
 use lib.Seq.{map-set-same}
 use borrow.Author.Tests.{ne-eqb}
 use Rattle.plain.specs.Queue as Q
@@ -22,11 +22,10 @@ use Rattle.store.specs.Store.{Store, Shaped}
 use Rattle.store.specs.Meaning.{lenOf, places, itemAt, items, queueOf, cellsOf, plain, Same}
 use Rattle.store.specs.Sound.{times, Laid, Apart}
 use Rattle.store.specs.Steps.{withNumber, PlaceOf, Forward}
-use Rattle.store.proofs.Lists.{times-append}
 use Rattle.store.proofs.Canonical.{has-id, places-length, slot-stands}
 use Rattle.store.proofs.Walk.{place-at}
 use Rattle.store.proofs.Standing.{used-small}
-use Rattle.store.proofs.Relaid.{by-slot, items-kept, Queued, own-places, means}
+use Rattle.store.proofs.Relaid.{by-slot, items-kept, Queued, means}
 use Rattle.store.proofs.KeptIds.{kept-after, unused-after}
 use Rattle.store.proofs.Moving.{Confirmed, moved-queue}
 use Rattle.store.proofs.Confirm.{apart, confirm-laid, confirm-queue, holds-kept}
@@ -60,7 +59,7 @@ module _ (s t : Store) (w : Shaped s) (h : Laid s) (c i n from to : ℕ) (l : c 
       (moved-queue s t w h c from to l (place .within) k (d .queue .own) (d .lens) (d .queue .others))
 
   -- each slot keeps its record
-  pub kept : (j : ℕ) → (slotAt (t .slots) j .id ≡ slotAt (s .slots) j .id) × (slotAt (t .slots) j .class ≡ slotAt (s .slots) j .class)
+  kept : (j : ℕ) → (slotAt (t .slots) j .id ≡ slotAt (s .slots) j .id) × (slotAt (t .slots) j .class ≡ slotAt (s .slots) j .class)
   kept j = rw (d .slots) (by-slot (s .slots) i (withNumber n v) inside
       (λ j x. (x .id ≡ slotAt (s .slots) j .id) × (x .class ≡ slotAt (s .slots) j .class)) (refl, refl) (λ j ne. (refl, refl)) j)
 
@@ -85,17 +84,8 @@ module _ (s t : Store) (w : Shaped s) (h : Laid s) (c i n from to : ℕ) (l : c 
   first ids = rw (sym (map-take (itemAt (s .slots) (s .queries)) from ps)) (has-none (s .slots) (s .queries) (v .id) (take from ps) (λ j k m e.
       let same : j ≡ i = one-id (λ j. slotAt (s .slots) j .id) ids j i k small (omega (arith, has-id v held, e)) e in
       omega (arith, subst (λ (z : ℕ). 0 < times z (take from ps)) same m, apart i ps from (omega (arith, long, place .within)) at once .0)))
-    where
-      up : (j : ℕ) → times j (take from ps) ≤ times j ps
-      up j = omega (arith, ap (times j) (take-append-drop from ps), times-append j (take from ps) (drop from ps))
 
   module _ (ids : Apart 128 (λ j. slotAt (s .slots) j .id)) (a : All Confirmed (take to (queueOf s c))) (b : All Waiting (drop to (queueOf s c))) where
-    pub forward-queue : queueOf t c ≡ K.moved (v .id) n (queueOf s c)
-    forward-queue =
-        ap (items (t .slots) (t .queries)) (own-places s t c (movedUp i ps from to) queued)
-        ∙ rw (d .slots, d .queries)
-        (confirm-queue (s .slots) (s .queries) ps i from to n (omega (arith, long, place .within)) k at once inside small (first ids) a b)
-
     elsewhere : (e : ℕ) → e < 16 → (e ≡ c → ⊥) → items (t .slots) (t .queries) (places s e) ≡ items (s .slots) (s .queries) (places s e)
     elsewhere e m ne =
         rw (d .slots, d .queries)

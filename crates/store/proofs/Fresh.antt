@@ -1,17 +1,17 @@
 -- A fresh site is sound. Assumes nothing.
-use Prim.Native.Nat.{ℕ, _%_, _+_, _*_, _-_, _<_, _≤_}
+use Prim.Native.Nat.{ℕ, _%_, _+_, _*_, _-_, _<_}
 use native.Mathlib.Omega.{arith}
 use mathlib.Core.Path.{_≡_, refl, sym, ap, _∙_, subst}
 use mathlib.Core.Logic.{inl}
 use mathlib.Core.List.{List, [], map}
 use lib.Dec.{ltb}
-use lib.ListN.{length, take, drop, replicate, length-drop, length-replicate, getD-replicate, List·getD-eq-default}
+use lib.ListN.{length, take, drop, replicate, length-drop, length-replicate, getD-replicate, List·getD-eq-default, getD}
 use lib.Seq.{ext-getD, length-take-le, getD-take, getD-drop}
 use borrow.Author.Tests.{ltb-true, ltb-false}
 use Rattle.plain.specs.Site as S
 use Rattle.places.specs.Moves.{part}
 use Rattle.plain.proofs.Tests.{by-test}
-use Rattle.plain.specs.Queue.{Item, hasNumber, count}
+use Rattle.plain.specs.Queue.{Item, hasNumber, count, confirmedCosts}
 use Rattle.plain.specs.Site.{sum, Recent}
 use Rattle.plain.specs.Sound.{InOrder}
 use Rattle.slots.specs.Meaning.{freeSlot, isUsed, noSlot, slotAt}
@@ -30,10 +30,6 @@ module _ where
   slot-free : (i : ℕ) → i < 128 → slotAt (fresh .slots) i ≡ freeSlot
   unfolding fresh
   slot-free i l = getD-replicate 128 i freeSlot noSlot l
-
-  slot-past : (i : ℕ) → 128 ≤ i → slotAt (fresh .slots) i ≡ noSlot
-  unfolding fresh
-  slot-past i h = List·getD-eq-default (replicate 128 freeSlot) noSlot {n = i} (omega (arith, length-replicate 128 freeSlot))
 
   no-len : (c : ℕ) → c < 16 → lenOf fresh c ≡ 0
   unfolding fresh
@@ -75,6 +71,14 @@ module _ where
   counts : fresh .confirmations ≡ fresh .commits + sum (λ c. count hasNumber (queueOf fresh c)) 16
   counts = zero-both (sum-nothing (λ c. count hasNumber (queueOf fresh c)) 16 (λ c l. ap (λ (q : List Item). count hasNumber q) (no-queue c l)))
 
+  no-sum : (c : ℕ) → c < 16 → getD (fresh .sums) c 0 ≡ 0
+  unfolding fresh
+  no-sum c l = getD-replicate 16 c 0 0 l
+
+  none-costs : confirmedCosts [] ≡ 0
+  unfolding confirmedCosts
+  none-costs = refl
+
   none-recent : (n : ℕ) → Recent (fresh .confirmations) n → ⊥
   unfolding fresh
   none-recent n r = omega (arith, r .given, r .within)
@@ -101,6 +105,7 @@ module _ where
     backs-bounded = λ i l. rw (slot-free i l) (omega arith);
     only-a-head-done = λ c l. subst Rest (sym (no-queue c l)) tt;
     working-cells-follow = λ c l. subst (λ (q : List Item). Cells q (cellsOf base c) (cellsOf base c)) (sym (no-queue c l)) refl;
+    sums-right = λ c l. no-sum c l ∙ sym (ap confirmedCosts (no-queue c l) ∙ none-costs);
     kept-not-zero = λ n r. absurd (none-recent n r);
     kept-differ = λ m n r. absurd (none-recent m r);
     kept-queued = λ i l u n r. absurd (none-recent n r);

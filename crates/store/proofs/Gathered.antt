@@ -22,7 +22,7 @@ use Rattle.queries.specs.declared.Query.{Query}
 use Rattle.queries.specs.Table.{freeQuery}
 use Rattle.store.specs.Sound.{Apart, BacksOk, SlotsOk}
 use Rattle.store.specs.Checks.{Owned, Lined, Classed, KeptOk, LaidIn, LaidOut, MatchesAll, SlotsIn, Unnumbered}
-use Rattle.store.specs.Checks.{classesOf, doneIn, idsOf, lineAt, lineIn, markIn, nth, numbered, numbersOf}
+use Rattle.store.specs.Checks.{classesOf, doneIn, due, dueIn, idsOf, lineAt, lineIn, markIn, nth, numbered, numbersOf}
 use Rattle.store.proofs.Canonical.{has-class, has-id}
 
 -- one field of the first i slots
@@ -112,28 +112,31 @@ module _ (at : ℕ → ℕ) where
   ) n
 
 -- all of them: of the first i slots, and the lines of the first j places
-pub record StageTo (l : List Slot) (table : List Query) (lines dones marks : List ℕ) (i j : ℕ) : Type 0 where
+pub record StageTo (l : List Slot) (table : List Query) (lines dones marks dues : List ℕ) (i j : ℕ) : Type 0 where
   pub line : LinedTo (lineIn l table) lines j
   pub done : FilledTo (doneIn l) dones i 0
   pub mark : FilledTo (markIn l) marks i 0
+  pub due-is : FilledTo (dueIn l) dues i 1
 
-pub stage-none : (l : List Slot) (table : List Query) → StageTo l table (replicate 136 0) (replicate 136 0) (replicate 136 0) 0 0
+pub stage-none : (l : List Slot) (table : List Query) → StageTo l table (replicate 136 0) (replicate 136 0) (replicate 136 0) (replicate 136 1) 0 0
 stage-none l table = record {
   line = filled-none (lineIn l table) 0 .0;
   done = filled-none (doneIn l) 0;
   mark = filled-none (markIn l) 0;
+  due-is = filled-none (dueIn l) 1;
 }
 
-module _ (l : List Slot) (table : List Query) (lines dones marks : List ℕ) (i j : ℕ) (h : StageTo l table lines dones marks i j) where
-  pub stage-more : i < 128 → j ≡ i
-      → StageTo l table (set lines i (slotAt l i .number)) (set dones i (slotAt l i .done)) (set marks i (slotAt l i .mark)) (i + 1) (i + 1)
-  stage-more m q = record {
+module _ (l : List Slot) (table : List Query) (lines dones marks dues : List ℕ) (i j : ℕ) (h : StageTo l table lines dones marks dues i j) where
+  pub stage-more : i < 128 → j ≡ i → (x : ℕ) → x ≡ due (slotAt l i .number) (slotAt l i .count) (slotAt l i .done)
+      → StageTo l table (set lines i (slotAt l i .number)) (set dones i (slotAt l i .done)) (set marks i (slotAt l i .mark)) (set dues i x) (i + 1) (i + 1)
+  stage-more m q x e = record {
     line = lined-more (lineIn l table) lines i (slotAt l i .number) (omega arith) (rw q at (h .line)) (rw (lt-ltb i 128 m));
     done = filled-more (doneIn l) dones i (slotAt l i .done) 0 (omega arith) (h .done) (rw (lt-ltb i 128 m));
     mark = filled-more (markIn l) marks i (slotAt l i .mark) 0 (omega arith) (h .mark) (rw (lt-ltb i 128 m));
+    due-is = filled-more (dueIn l) dues i x 1 (omega arith) (h .due-is) (e ∙ rw (lt-ltb i 128 m));
   }
 
-  pub line-more : (p : ℕ) → p < 8 → j ≡ 128 + p → StageTo l table (set lines (128 + p) (queryAt table p .begun)) dones marks i (128 + (p + 1))
+  pub line-more : (p : ℕ) → p < 8 → j ≡ 128 + p → StageTo l table (set lines (128 + p) (queryAt table p .begun)) dones marks dues i (128 + (p + 1))
   line-more p m q =
       let s : 128 + p - 128 ≡ p = omega arith in
       let n : 128 + p + 1 ≡ 128 + (p + 1) = omega arith in
@@ -141,13 +144,15 @@ module _ (l : List Slot) (table : List Query) (lines dones marks : List ℕ) (i 
         line = rw n at (lined-more (lineIn l table) lines (128 + p) (queryAt table p .begun) (omega arith) (rw q at (h .line)) (rw (le-ltb (128 + p) 128 (omega arith), s)));
         done = h .done;
         mark = h .mark;
+        due-is = h .due-is;
       }
 
-  pub stage-all : length l ≡ 128 → length table ≡ 8 → 128 ≤ i → 136 ≤ j → Lined l table lines dones marks
+  pub stage-all : length l ≡ 128 → length table ≡ 8 → 128 ≤ i → 136 ≤ j → Lined l table lines dones marks dues
   stage-all n m a b = record {
     line = lined-all (lineIn l table) lines j b (h .line) (λ k o. rw (le-ltb k 128 (omega arith)) (ap (λ (v : Query). v .begun) (List·getD-eq-default table freeQuery (omega arith))));
     done = filled-all (doneIn l) dones i 0 a (h .done) (λ k o _. rw (le-ltb k 128 o)) (λ k o. rw (le-ltb k 128 (omega arith)));
     mark = filled-all (markIn l) marks i 0 a (h .mark) (λ k o _. rw (le-ltb k 128 o)) (λ k o. rw (le-ltb k 128 (omega arith)));
+    due = filled-all (dueIn l) dues i 1 a (h .due-is) (λ k o u. rw (le-ltb k 128 o, lt-ltb k 136 u)) (λ k o. rw (le-ltb k 128 (omega arith), le-ltb k 136 o));
   }
 
 -- what the walk over the slots looks at are two rules: each is free or valid, and the counts of times put back are bounded
@@ -177,12 +182,12 @@ classed-of s ok i l = go (ok i l)
     go (inr h) = has-class (slotAt (s .slots) i) h
 
 -- the lists that the check gathers hold the fields of a site's slots and queries
-pub record Gathered (s : Store) (ids classes lines dones marks : List ℕ) : Type 0 where
+pub record Gathered (s : Store) (ids classes lines dones marks dues : List ℕ) : Type 0 where
   pub owned : Owned (s .slots) ids classes
-  pub lined : Lined (s .slots) (s .queries) lines dones marks
+  pub lined : Lined (s .slots) (s .queries) lines dones marks dues
 
-pub gathered : (s : Store) {ids classes lines dones marks : List ℕ} → Owned (s .slots) ids classes
-    → Lined (s .slots) (s .queries) lines dones marks → Gathered s ids classes lines dones marks
+pub gathered : (s : Store) {ids classes lines dones marks dues : List ℕ} → Owned (s .slots) ids classes
+    → Lined (s .slots) (s .queries) lines dones marks dues → Gathered s ids classes lines dones marks dues
 gathered s o g = record { owned = o; lined = g }
 
 -- two that are the same below 128 are alike to every rule of the slots' numbers
@@ -196,8 +201,9 @@ module _ {f g : ℕ → ℕ} (same : (i : ℕ) → i < 128 → f i ≡ g i) wher
   unfolding numbered
   alike-numbered = sum-same _ _ 128 (λ i l. rw (same i l))
 
-  alike-laid : {id class line done mark : ℕ → ℕ} {queue lens : List ℕ} {table : List Query} {low high top commits : ℕ}
-      → LaidOut id class f line done mark queue lens table low high top commits → LaidOut id class g line done mark queue lens table low high top commits
+  alike-laid : {id class line done mark due : ℕ → ℕ} {queue lens sums : List ℕ} {table : List Query} {low high top commits : ℕ}
+      → LaidOut id class f line done mark due queue lens sums table low high top commits
+      → LaidOut id class g line done mark due queue lens sums table low high top commits
   alike-laid h = record {
     short = h .short;
     tails = h .tails;
@@ -205,6 +211,7 @@ module _ {f g : ℕ → ℕ} (same : (i : ℕ) → i < 128 → f i ≡ g i) wher
     once = h .once;
     differ = record { ids = h .differ .ids; numbers = alike-apart (h .differ .numbers) };
     places = h .places;
+    sums-right = h .sums-right;
     free-zero = h .free-zero;
     tally = omega (arith, h .tally, alike-numbered);
   }
@@ -217,12 +224,12 @@ module _ {f g : ℕ → ℕ} (same : (i : ℕ) → i < 128 → f i ≡ g i) wher
   }
 
 -- a test of the rules of a site, with these for the fields
-abbrev Laying : Bool → Store → (id class number line done mark : ℕ → ℕ) → Type 0
-Laying b s id class number line done mark =
-    Decides b (LaidOut id class number line done mark (s .queue) (s .lens) (s .queries) (s .low) (s .high) (s .confirmations) (s .commits))
+abbrev Laying : Bool → Store → (id class number line done mark due : ℕ → ℕ) → Type 0
+Laying b s id class number line done mark due =
+    Decides b (LaidOut id class number line done mark due (s .queue) (s .lens) (s .sums) (s .queries) (s .low) (s .high) (s .confirmations) (s .commits))
 
 -- the rules over the lists are those over the slots and queries
-module _ (s : Store) {ids classes lines dones marks : List ℕ} (g : Gathered s ids classes lines dones marks) where
+module _ (s : Store) {ids classes lines dones marks dues : List ℕ} (g : Gathered s ids classes lines dones marks dues) where
   pub classed : SlotsOk s → Classed (nth classes)
   classed ok = subst Classed (sym (g .owned .class)) (classed-of s ok)
 
@@ -235,14 +242,15 @@ module _ (s : Store) {ids classes lines dones marks : List ℕ} (g : Gathered s 
   number-line = line-number (s .slots) (s .queries)
 
   module _ {b : Bool} where
-    pub laid-is : Laying b s (nth ids) (nth classes) (nth lines) (nth lines) (nth dones) (nth marks) → Decides b (LaidIn s)
+    pub laid-is : Laying b s (nth ids) (nth classes) (nth lines) (nth lines) (nth dones) (nth marks) (nth dues) → Decides b (LaidIn s)
     laid-is d =
         decides-as (alike-laid number-line) (alike-laid (λ i l. sym (number-line i l)))
-        (subst (λ (f : ℕ → ℕ). Laying b s f (classesOf (s .slots)) (lineAt s) (lineAt s) (doneIn (s .slots)) (markIn (s .slots))) (g .owned .id)
-        (subst (λ (f : ℕ → ℕ). Laying b s (nth ids) f (lineAt s) (lineAt s) (doneIn (s .slots)) (markIn (s .slots))) (g .owned .class)
-        (subst (λ (f : ℕ → ℕ). Laying b s (nth ids) (nth classes) f f (doneIn (s .slots)) (markIn (s .slots))) (g .lined .line)
-        (subst (λ (f : ℕ → ℕ). Laying b s (nth ids) (nth classes) (nth lines) (nth lines) f (markIn (s .slots))) (g .lined .done)
-        (subst (λ (f : ℕ → ℕ). Laying b s (nth ids) (nth classes) (nth lines) (nth lines) (nth dones) f) (g .lined .mark) d)))))
+        (subst (λ (f : ℕ → ℕ). Laying b s f (classesOf (s .slots)) (lineAt s) (lineAt s) (doneIn (s .slots)) (markIn (s .slots)) (dueIn (s .slots))) (g .owned .id)
+        (subst (λ (f : ℕ → ℕ). Laying b s (nth ids) f (lineAt s) (lineAt s) (doneIn (s .slots)) (markIn (s .slots)) (dueIn (s .slots))) (g .owned .class)
+        (subst (λ (f : ℕ → ℕ). Laying b s (nth ids) (nth classes) f f (doneIn (s .slots)) (markIn (s .slots)) (dueIn (s .slots))) (g .lined .line)
+        (subst (λ (f : ℕ → ℕ). Laying b s (nth ids) (nth classes) (nth lines) (nth lines) f (markIn (s .slots)) (dueIn (s .slots))) (g .lined .done)
+        (subst (λ (f : ℕ → ℕ). Laying b s (nth ids) (nth classes) (nth lines) (nth lines) (nth dones) f (dueIn (s .slots))) (g .lined .mark)
+        (subst (λ (f : ℕ → ℕ). Laying b s (nth ids) (nth classes) (nth lines) (nth lines) (nth dones) (nth marks) f) (g .lined .due) d))))))
 
     pub kept-is : Decides b (KeptOk (nth ids) (nth lines) (s .confirmations) (s .kept))
         → Decides b (KeptOk (idsOf (s .slots)) (numbersOf (s .slots)) (s .confirmations) (s .kept))

@@ -15,6 +15,7 @@ pub mod Promise
 pub mod Queried
 pub mod Asked
 pub mod Offer
+pub mod Summed
 pub mod Offered
 pub mod Walk
 pub mod Commit
@@ -33,12 +34,14 @@ pub mod Taking
 pub mod Places
 pub mod Cells
 pub mod Gathered
+pub mod Summing
 pub mod Tally
 pub mod Whole
 pub mod Judged
 pub mod Pairs
 pub mod Agree
 pub mod Counting
+pub mod Ending
 pub mod Entered
 pub mod Turns
 pub mod Begins

@@ -19,7 +19,7 @@ use Rattle.slots.specs.Rules.{Holds}
 use Rattle.queries.specs.declared.Query.{Query}
 use Rattle.store.specs.Store.{Store, queryAt}
 use Rattle.store.specs.Meaning.{places, itemAt, items, queueOf, keptAt, plainClass, plain}
-use Rattle.store.specs.Sound.{Laid, Sound, Rest, Cells, times}
+use Rattle.store.specs.Sound.{Laid, Sound, SumsOk, Rest, Cells, times}
 use Rattle.store.specs.Checks.{Mine, Reading, Stays}
 use Rattle.store.proofs.Canonical.{has-class, has-id, stands-there, slot-item, query-item, slot-stands, query-stands}
 use Rattle.store.proofs.Once.{stays-of, reading-small}
@@ -207,9 +207,9 @@ module _ (s : Store) (n : length (s .slots) ≡ 128) (k8 : length (s .queries) �
             (λ t. (ltb-true 0 j t, eqb-true _ j (rw t at p)))
             (λ f. no _ (rw f at p) refl)
 
-    pub from-plain : SoundSite (plain s base wrk) → Sound s base wrk
+    pub from-plain : SumsOk s → SoundSite (plain s base wrk) → Sound s base wrk
     unfolding plain plainClass standing
-    from-plain r = record {
+    from-plain sums r = record {
       laid = h;
       ids-differ = λ x y l m e. by-test (isUsed (slotAt (s .slots) x))
           (λ u. absurd (differ-at idIs (λ j p n. refl) (r .ids) (slotAt (s .slots) x .id) x y l m u (rw e at u)
@@ -224,6 +224,7 @@ module _ (s : Store) (n : length (s .slots) ≡ 128) (k8 : length (s .queries) �
           (λ f. omega (arith, ltb-false 0 (slotAt (s .slots) x .number) f));
       counts-agree = r .tally;
       backs-bounded = λ i l. few-backs i l (h .free-or-valid i l);
+      sums-right = sums;
       only-a-head-done = λ c l. cells-of (queueOf s c) _ _ (r .each c l .working) .1;
       working-cells-follow = λ c l. cells-of (queueOf s c) _ _ (r .each c l .working) .0;
       kept-not-zero = r .kept-not-zero;

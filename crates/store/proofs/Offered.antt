@@ -11,6 +11,7 @@ use lib.Dec.{ltb, leb}
 use lib.ListN.{getD, set, length-map, length-set}
 use lib.Seq.{getD-set-same}
 use borrow.Author.Tests.{ne-eqb, lt-ltb, le-ltb, le-leb, lt-leb}
+use Rattle.plain.specs.Queue.{confirmedCosts}
 use Rattle.plain.specs.Steps as K
 use Rattle.plain.specs.Site as S
 use Rattle.plain.proofs.Tests.{by-test}
@@ -25,6 +26,7 @@ use Rattle.store.proofs.KeptIds.{place-of}
 use Rattle.store.proofs.Meant.{to-plain}
 use Rattle.store.proofs.Offer.{offer-laid, offer-means}
 use Rattle.store.proofs.Promise.{sound-kept}
+use Rattle.store.proofs.Summed.{offer-sum}
 use Rattle.store.specs.Calls.{State, RightCells, SoundState, Did, plainOf}
 use Rattle.store.specs.Checks.{InUse, Spare}
 use Rattle.store.specs.Meaning.{Same, lenOf, plain, plainClass}
@@ -135,12 +137,17 @@ module _ (x : State) (w : Shaped (x .site)) (r : RightCells x) (q : SoundState x
           means = rw outcome (offer-means s w (q .laid) (v .class) i v lo hi (has-class v held) (here left .0) (here left .1) held refl (fits left) marked
               (x .committed) (x .working) (requestOf v) (new-entry v new i))
 
+          -- the sums stay: the request waits
+          sums : (c : ℕ) → c < 16 → getD (s .sums) c 0 ≡ confirmedCosts (S.call p k .site .class c .queue)
+          unfolding plain plainClass
+          sums c l = q .sums-right c l ∙ sym (offer-sum p (to-plain s (w .slots) (w .queries) (q .laid) (x .committed) (x .working) q) b (rw (accepted left)) c)
+
           pub offered : Did x k y (K.queued (v .id) (v .class) (lenOf s (v .class) + 1) i)
           unfolding K.offerStep plain plainClass
           offered = record {
             cells = r;
             sound = sound-kept x y k w (length-set (s .slots) i v ∙ w .slots) (w .queries) q
-                (offer-laid s w (q .laid) (v .class) i v lo hi (has-class v held) (here left .0) (here left .1) held refl (fits left) marked) means;
+                (offer-laid s w (q .laid) (v .class) i v lo hi (has-class v held) (here left .0) (here left .1) held refl (fits left) marked) means sums;
             site = means;
             answer = rw (outcome, length-map, places-length s w (q .laid) (v .class) (has-class v held));
           }

@@ -1,11 +1,11 @@
 -- Two outcomes that a call's promise allows are equal; a plain site's soundness goes over to one that is the same. Assumes nothing.
-use Prim.Native.Nat.{ℕ}
+use Prim.Native.Nat.{ℕ, _<_}
 use native.Mathlib.Omega.{arith}
 use mathlib.Core.Path.{_≡_, refl, sym, ap, _∙_}
 use mathlib.Core.Logic.{_⊎_, inl, inr}
 use mathlib.Core.Bool.{Bool}
 use lib.Dec.{eqb}
-use lib.ListN.{length}
+use lib.ListN.{length, getD}
 use borrow.Author.Tests.{eqb-true, eqb-false}
 use Rattle.plain.specs.Steps as K
 use Rattle.plain.specs.Site as S
@@ -17,10 +17,10 @@ use Rattle.store.proofs.Canonical.{canonical, canonical-cells}
 use Rattle.store.proofs.Decided.{sound-decided}
 use Rattle.store.proofs.Meant.{to-plain, from-plain}
 use Rattle.plain.proofs.Sums.{sum-same}
-use Rattle.plain.specs.Queue.{Item, idIs, slotIs, readingIs, hasNumber, count}
+use Rattle.plain.specs.Queue.{Item, idIs, slotIs, readingIs, hasNumber, count, confirmedCosts}
 use Rattle.store.specs.Calls.{Called, Did, Refused, RightCells, SoundState, State, plainOf}
-use Rattle.store.specs.Meaning.{Same}
-use Rattle.store.specs.Sound.{Laid}
+use Rattle.store.specs.Meaning.{Same, plain, plainClass}
+use Rattle.store.specs.Sound.{Laid, SumsOk}
 use Rattle.store.specs.Store.{Shaped}
 
 pub same-sym : {a b : S.Site} → Same a b → Same b a
@@ -52,11 +52,17 @@ same-sound a b e h = record {
     there : {n : ℕ} → S.Recent (a .confirmations) n → S.Recent (b .confirmations) n
     there r = rw (← (e .confirmations)) r
 
+-- the sums that stand with the classes are right if they are those of the plain classes
+pub sums-of : (y : State) (b : S.Site) → Same (plainOf y) b → ((c : ℕ) → c < 16 → getD (y .site .sums) c 0 ≡ confirmedCosts (b .class c .queue)) → SumsOk (y .site)
+unfolding plain plainClass
+sums-of y b e h c l = h c l ∙ sym (ap (λ (k : K.Class). confirmedCosts (k .queue)) (e .class c l))
+
 -- a call that leaves the slots and places laid out, and does what the plain call does, leaves the site sound
 pub sound-kept : (x y : State) (k : S.Call) → Shaped (x .site) → length (y .site .slots) ≡ 128 → length (y .site .queries) ≡ 8 → SoundState x → Laid (y .site)
-    → Same (plainOf y) (S.call (plainOf x) k .site) → SoundState y
-sound-kept x y k v n n′ q h e =
-    from-plain (y .site) n n′ h (y .committed) (y .working)
+    → Same (plainOf y) (S.call (plainOf x) k .site)
+    → ((c : ℕ) → c < 16 → getD (y .site .sums) c 0 ≡ confirmedCosts (S.call (plainOf x) k .site .class c .queue)) → SoundState y
+sound-kept x y k v n n′ q h e sums =
+    from-plain (y .site) n n′ h (y .committed) (y .working) (sums-of y (S.call (plainOf x) k .site) e sums)
     (same-sound (plainOf y) (S.call (plainOf x) k .site) e (call-sound (plainOf x) k (to-plain (x .site) (v .slots) (v .queries) (q .laid) (x .committed) (x .working) q)))
 
 -- any two outcomes of a call are equal
@@ -64,7 +70,7 @@ module _ (x : State) (k : S.Call) (y z : State) (a b : K.Answer) (u : Shaped (x 
   one-did : Did x k y a → Did x k z b → (y ≡ z) × (a ≡ b)
   one-did p q =
       let e = same-trans (p .site) (same-sym (q .site)) in
-      let s = canonical (y .site) (z .site) (y .committed) (y .working) (z .committed) (z .working) v w (p .sound .laid) (q .sound .laid) e in
+      let s = canonical (y .site) (z .site) (y .committed) (y .working) (z .committed) (z .working) v w (p .sound .laid) (q .sound .laid) e (p .sound .sums-right) (q .sound .sums-right) in
       let c = canonical-cells (y .site) (z .site) (y .committed) (y .working) (z .committed) (z .working) v w (p .sound .laid) (q .sound .laid) e
       (p .cells .0) (p .cells .1) (q .cells .0) (q .cells .1) in
       ((λ i. record { site = s i; committed = c .0 i; working = c .1 i }), p .answer ∙ sym (q .answer))

@@ -7,20 +7,22 @@ use mathlib.Core.Logic.{_⊎_, inl, inr}
 use mathlib.Core.Bool.{Bool, true, false, cond, _&&_}
 use mathlib.Core.List.{List, [], _∷_}
 use lib.Dec.{eqb, ltb}
-use lib.ListN.{length, take, drop}
+use lib.ListN.{length, getD, take, drop}
 use borrow.Author.Tests.{eqb-true, eqb-false, lt-ltb, le-ltb, ltb-true, ltb-false}
-use Rattle.plain.specs.Queue.{Item, reading, isConfirmed, beforeWaiting}
+use Rattle.plain.specs.Queue.{Item, reading, isConfirmed, beforeWaiting, confirmedCosts}
 use Rattle.plain.specs.Steps.{Class, classWith, begun, backed, backCells, queryOn, queryStep}
 use Rattle.plain.specs.Site as S
 use Rattle.plain.specs.Site.{named}
-use Rattle.plain.specs.Sound.{All, Waiting}
+use Rattle.plain.specs.Sound.{All, Waiting, SoundSite}
 use Rattle.plain.proofs.Tests.{by-test}
+use Rattle.plain.proofs.Costs.{query-kept}
 use Rattle.queries.specs.declared.Query.{Query}
 use Rattle.store.specs.Store.{Store, Shaped, queryAt}
 use Rattle.store.specs.Meaning.{Same, cellsOf, queueOf, plain, plainClass}
 use Rattle.store.specs.Sound.{Laid}
 use Rattle.store.specs.Calls.{State, RightCells, SoundState, plainOf, Did}
 use Rattle.store.proofs.Masks.{none-named}
+use Rattle.store.proofs.Meant.{to-plain}
 use Rattle.store.proofs.Promise.{sound-kept}
 use Rattle.store.proofs.Entering.{Enters, enter-laid, enter-queue, enter-others, this-query}
 
@@ -45,6 +47,7 @@ pub record Settled (s t : Store) (base wrk wrk′ : List ℕ) (c : ℕ) : Type 0
   pub counts : (t .confirmations ≡ s .confirmations) × (t .commits ≡ s .commits) × (t .begun ≡ s .begun)
   pub kept : t .kept ≡ s .kept
   pub queries : t .queries ≡ s .queries
+  pub sums : t .sums ≡ s .sums
 
 -- what the mask names of the classes before c
 abbrev pub before : ℕ → ℕ → ℕ → Bool
@@ -57,6 +60,7 @@ pub record Upto (s t : Store) (base wrk wrk′ : List ℕ) (m p n c : ℕ) : Typ
       → plain t base wrk′ .class d ≡ cond (before m c d) (queryStep (suc p) n (plain s base wrk .class d)) (plain s base wrk .class d)
   pub mask : (d : ℕ) → d < 16 → named (queryAt (t .queries) p .classes) d ≡ before m c d
   pub began : (queryAt (t .queries) p .classes ≡ 0) ⊎ (queryAt (t .queries) p .begun ≡ n)
+  pub sums : (d : ℕ) → d < 16 → getD (t .sums) d 0 ≡ getD (s .sums) d 0 + cond (before m c d) 1 0
   pub counts : (t .confirmations ≡ s .confirmations) × (t .commits ≡ s .commits) × (t .begun ≡ s .begun)
   pub kept : t .kept ≡ s .kept
 
@@ -86,6 +90,7 @@ module _ (s t : Store) (base wrk wrk′ : List ℕ) (m p n c : ℕ) (u : Upto s 
     class = λ d l. rw (skip-is m c d f) (u .class d l);
     mask = λ d l. rw (skip-is m c d f) (u .mask d l);
     began = u .began;
+    sums = λ d l. rw (skip-is m c d f) (u .sums d l);
     counts = u .counts;
     kept = u .kept;
   }
@@ -93,7 +98,8 @@ module _ (s t : Store) (base wrk wrk′ : List ℕ) (m p n c : ℕ) (u : Upto s 
   -- and one that is: its head is put back if it waits, and the entry enters before the waiting
   module _ (t₁ t₂ : Store) (wrk₁ : List ℕ) (to mask : ℕ) (w : Shaped t₁) (l : c < 16) (k : p < 8) (named-here : named m c ≡ true)
       (settled : Settled t t₁ base wrk′ wrk₁ c) (e : Enters t₁ t₂ c p to n mask) (fits : to ≤ length (queueOf t₁ c))
-      (ahead : All (λ y. isConfirmed y ≡ true) (take to (queueOf t₁ c))) (behind : All Waiting (drop to (queueOf t₁ c))) where
+      (ahead : All (λ y. isConfirmed y ≡ true) (take to (queueOf t₁ c))) (behind : All Waiting (drop to (queueOf t₁ c)))
+      (sum-own : getD (t₂ .sums) c 0 ≡ getD (t₁ .sums) c 0 + 1) (sum-others : (d : ℕ) → d < 16 → (d ≡ c → ⊥) → getD (t₂ .sums) d 0 ≡ getD (t₁ .sums) d 0) where
     new : named (queryAt (t₁ .queries) p .classes) c ≡ false
     new = rw (settled .queries) (u .mask c l ∙ not-yet m c)
 
@@ -134,6 +140,11 @@ module _ (s t : Store) (base wrk wrk′ : List ℕ) (m p n c : ℕ) (u : Upto s 
           (rw (now, before-this m c, named-here) (e .own))
           (λ d q ne. rw (now, before-other m c d ne) (e .others d q ne ∙ rw (settled .queries) (u .mask d q)));
       began = inr (ap (λ (x : Query). x .begun) now);
+      sums = by-class (λ d. getD (t₂ .sums) d 0 ≡ getD (s .sums) d 0 + cond (before m (suc c) d) 1 0)
+          (let z : getD (t .sums) c 0 ≡ getD (s .sums) c 0 + 0 = u .sums c l ∙ rw (not-yet m c) in
+          let o : getD (t₁ .sums) c 0 ≡ getD (t .sums) c 0 = ap (λ (r : List ℕ). getD r c 0) (settled .sums) in
+          rw (before-this m c, named-here) (omega (arith, sum-own)))
+          (λ d q ne. rw (before-other m c d ne) (sum-others d q ne ∙ ap (λ (r : List ℕ). getD r d 0) (settled .sums) ∙ u .sums d q));
       counts = (
         e .counts .0 ∙ settled .counts .0 ∙ u .counts .0,
         e .counts .1 ∙ settled .counts .1 ∙ u .counts .1,
@@ -149,6 +160,7 @@ upto-none s base wrk m p n h z = record {
   class = λ d l. rw (none-before d);
   mask = λ d l. rw (none-before d, z) (none-named d);
   began = inl z;
+  sums = λ d l. rw (none-before d) (omega arith);
   counts = (refl, refl, refl);
   kept = refl;
 }
@@ -158,7 +170,7 @@ upto-none s base wrk m p n h z = record {
 
 -- THE END: after all classes it is the plain call, on the site x before the count was raised
 module _ (x : State) (y : State) (w : Shaped (x .site)) (m p : ℕ) (r : RightCells x) (r′ : RightCells y) (q : SoundState x)
-    (s : Store) (raised : (s .begun ≡ x .site .begun + 1) × (s .confirmations ≡ x .site .confirmations) × (s .commits ≡ x .site .commits) × (s .kept ≡ x .site .kept))
+    (s : Store) (raised : (s .begun ≡ x .site .begun + 1) × (s .confirmations ≡ x .site .confirmations) × (s .commits ≡ x .site .commits) × (s .kept ≡ x .site .kept) × (s .sums ≡ x .site .sums))
     (same-class : (d : ℕ) → d < 16 → plain s (x .committed) (x .working) .class d ≡ plainOf x .class d)
     (place : S.freePlace (plainOf x) ≡ suc p) (accepted : S.refusal (plainOf x) (S.query m) ≡ 0)
     (slots8 : (length (y .site .slots) ≡ 128) × (length (y .site .queries) ≡ 8)) (cells : y .committed ≡ x .committed)
@@ -191,10 +203,24 @@ module _ (x : State) (y : State) (w : Shaped (x .site)) (m p : ℕ) (r : RightCe
       kept-same : (n : ℕ) → plainOf y .kept n ≡ plainOf x .kept n
       kept-same n = unfold plain in (rw (u .kept, raised .3))
 
+  sound-x : SoundSite (plainOf x)
+  sound-x = to-plain (x .site) (w .slots) (w .queries) (q .laid) (x .committed) (x .working) q
+
+  costs : (d : ℕ) → d < 16 → getD (y .site .sums) d 0 ≡ confirmedCosts (S.begins (plainOf x) m .class d .queue)
+  costs d l =
+      let now : getD (y .site .sums) d 0 ≡ getD (x .site .sums) d 0 + cond (named m d) 1 0 =
+      u .sums d l ∙ rw (raised .4, all-before d l) in
+      now ∙ by-test (named m d)
+      (λ t. rw t (ap (λ (n : ℕ). n + 1) (old d l) ∙ sym (query-kept (plainOf x) sound-x m d taken l)))
+      (λ f. rw f (omega (arith, old d l)))
+    where
+      old : (d : ℕ) → d < 16 → getD (x .site .sums) d 0 ≡ confirmedCosts (plainOf x .class d .queue)
+      old d l = unfold plain plainClass in (q .sums-right d l)
+
   pub query-did : Did x (S.query m) y (begun (suc p))
   query-did = record {
     cells = r′;
-    sound = sound-kept x y (S.query m) w (slots8 .0) (slots8 .1) q (u .laid) (rw outcome same);
+    sound = sound-kept x y (S.query m) w (slots8 .0) (slots8 .1) q (u .laid) (rw outcome same) (λ d l. rw outcome (costs d l));
     site = rw outcome same;
     answer = rw (outcome, place);
   }

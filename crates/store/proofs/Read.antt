@@ -2,33 +2,37 @@
 use Prim.Native.Nat.{ℕ, suc, _+_, _*_, _-_, _<_, _≤_}
 use native.Mathlib.Omega.{arith}
 use mathlib.Core.Path.{_≡_, refl, sym, ap, subst, _∙_}
-use mathlib.Core.Bool.{cond}
+use mathlib.Core.Bool.{cond, true}
 use mathlib.Core.Option.{none}
 use mathlib.Core.List.{List, _∷_}
 use lib.Dec.{eqb}
-use lib.ListN.{length, drop, set, length-set}
-use borrow.Author.Tests.{eqb-true, eqb-false, eq-eqb, lt-leb}
+use lib.ListN.{length, drop, set, length-set, getD}
+use lib.Seq.{getD-set-same, getD-set-other}
+use borrow.Author.Tests.{eqb-true, eqb-false, eq-eqb, ne-eqb, lt-leb}
 use Rattle.plain.specs.Queue as Q
 use Rattle.plain.specs.Steps as K
 use Rattle.plain.specs.Site as S
 use Rattle.plain.proofs.Tests.{by-test}
+use Rattle.plain.proofs.Costs.{headConfirmed}
 use Rattle.store.specs.Calls.{Did, RightCells, SoundState, State, plainOf}
 use Rattle.store.specs.Meaning.{Same, cellsOf, lenOf, places, queueOf, plain, plainClass}
 use Rattle.store.specs.Store.{Store, Shaped, queryAt}
 use Rattle.queries.specs.declared.Query.{Query}
 use Rattle.queries.specs.Table.{Shrunk}
 use Rattle.store.specs.Sound.{Laid}
-use Rattle.store.specs.Steps.{headSlot}
+use Rattle.store.specs.Steps.{headSlot, oneLess}
 use Rattle.places.specs.Moves.{part, firstOff}
 use Rattle.store.proofs.Commit.{head-is, head-off}
 use Rattle.store.proofs.Places.{in-range}
 use Rattle.store.proofs.Canonical.{query-item}
+use Rattle.store.proofs.Meant.{to-plain}
 use Rattle.store.proofs.Offered.{accepted-call}
 use Rattle.store.proofs.Promise.{sound-kept}
+use Rattle.store.proofs.Summed.{work-sum}
 use Rattle.store.proofs.Reading.{Leaves, leave-laid, leave-queue, leave-others}
 
 module _ (x : State) (w : Shaped (x .site)) (r : RightCells x) (q : SoundState x) (c p mask : ℕ) (ps : List ℕ) (t : Store) (l : c < 16) (m : p < 8)
-    (e : Leaves (x .site) t c p mask ps) (long : length (t .queries) ≡ 8) where
+    (e : Leaves (x .site) t c p mask ps) (sums : t .sums ≡ set (x .site .sums) c (oneLess (getD (x .site .sums) c 0) 1)) (long : length (t .queries) ≡ 8) where
   abbrev s : Store
   s = x .site
 
@@ -71,11 +75,25 @@ module _ (x : State) (w : Shaped (x .site)) (r : RightCells x) (q : SoundState x
     kept = λ n r. rw (e .kept);
   }
 
+  right-sums : (d : ℕ) → d < 16 → getD (t .sums) d 0 ≡ Q.confirmedCosts (S.call site (S.work c) .site .class d .queue)
+  unfolding plain plainClass
+  right-sums d k =
+      rw sums (by-test (eqb d c)
+      (λ z. let is : d ≡ c = eqb-true d c z in
+      rw is (getD-set-same (s .sums) c _ 0 (omega (arith, w .sums)) ∙ rw (q .sums-right c l) (sym (after c ∙ rw (eq-eqb c c refl, first)))))
+      (λ f. let ne = eqb-false d c f in getD-set-other (s .sums) c d _ 0 ne ∙ q .sums-right d k ∙ sym (after d ∙ rw (ne-eqb d c ne))))
+    where
+      after : (d : ℕ) → Q.confirmedCosts (S.call site (S.work c) .site .class d .queue) ≡ cond (eqb d c) (Q.confirmedCosts (queueOf s c) - cond (headConfirmed (queueOf s c)) 1 0) (Q.confirmedCosts (queueOf s d))
+      after d = work-sum site (to-plain s (w .slots) (w .queries) (q .laid) (x .committed) (x .working) q) c (rw accepted) d
+
+      first : headConfirmed (queueOf s c) ≡ true
+      first = rw head
+
   pub read-did : Did x (S.work c) y (K.entry (suc p) (cellsOf (x .committed) c))
   unfolding did
   read-did = record {
     cells = r;
-    sound = sound-kept x y (S.work c) w (ap length (e .slots) ∙ w .slots) long q (leave-laid s t w (q .laid) c p mask ps l m e) (rw outcome same);
+    sound = sound-kept x y (S.work c) w (ap length (e .slots) ∙ w .slots) long q (leave-laid s t w (q .laid) c p mask ps l m e) (rw outcome same) right-sums;
     site = rw outcome same;
     answer = rw outcome;
   }
@@ -116,12 +134,13 @@ module _ (x : State) (w : Shaped (x .site)) (r : RightCells x) (q : SoundState x
       → part (t .queue) c ≡ firstOff (part (x .site .queue) c) (lenOf (x .site) c) → ((d : ℕ) → (d ≡ c → ⊥) → part (t .queue) d ≡ part (x .site .queue) d)
       → t .slots ≡ x .site .slots → (t .low ≡ x .site .low) × (t .high ≡ x .site .high)
       → (t .confirmations ≡ x .site .confirmations) × (t .commits ≡ x .site .commits) × (t .begun ≡ x .site .begun) → t .kept ≡ x .site .kept
+      → (sum : ℕ) → sum ≡ oneLess (getD (x .site .sums) c 0) 1 → t .sums ≡ set (x .site .sums) c sum
       → (place : ℕ) → place ≡ headSlot (x .site) c - 127
       → Did x (S.work c) (record { site = t; committed = x .committed; working = x .working }) (K.entry place (cellsOf (x .committed) c))
-  read-as t v shrunk b qs lens own others slots map counts kept place is =
+  read-as t v shrunk b qs lens own others slots map counts kept sum less sums place is =
       let small = entry-small (x .site) w (q .laid) c l some in
       let e : suc (headSlot (x .site) c - 128) ≡ place = omega arith in
       subst (λ (n : ℕ). Did x (S.work c) (record { site = t; committed = x .committed; working = x .working }) (K.entry n (cellsOf (x .committed) c))) e
       (read-did x w r q c (headSlot (x .site) c - 128) (v .classes) (drop 1 (places (x .site) c)) t l (omega arith)
       (entry-left (x .site) t w (q .laid) c l some big v shrunk b qs lens own others slots map counts kept)
-      (ap length qs ∙ length-set (x .site .queries) _ v ∙ w .queries))
+      (sums ∙ ap (set (x .site .sums) c) less) (ap length qs ∙ length-set (x .site .queries) _ v ∙ w .queries))

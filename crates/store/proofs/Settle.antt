@@ -35,6 +35,7 @@ settle-empty s base wrk c h z = record {
   counts = (refl, refl, refl);
   kept = refl;
   queries = refl;
+  sums = refl;
 }
 
 module _ (s : Store) (w : Shaped s) (h : Laid s) (c : ℕ) (l : c < 16) (some : 0 < lenOf s c) (base wrk : List ℕ) where
@@ -60,6 +61,7 @@ module _ (s : Store) (w : Shaped s) (h : Laid s) (c : ℕ) (l : c < 16) (some : 
     counts = (refl, refl, refl);
     kept = refl;
     queries = refl;
+    sums = refl;
   }
     where
       sure : (128 ≤ hd) ⊎ (0 < u .number) → Q.isConfirmed (itemAt (s .slots) (s .queries) hd) ≡ true
@@ -103,6 +105,7 @@ module _ (s : Store) (w : Shaped s) (h : Laid s) (c : ℕ) (l : c < 16) (some : 
       counts = (refl, refl, refl);
       kept = refl;
       queries = refl;
+      sums = refl;
     }
 
     pub settle-back : Settled s a base wrk wrk′ c

@@ -8,7 +8,9 @@ use mathlib.Core.Bool.{true, false}
 use mathlib.Core.List.{List, [], _∷_}
 use lib.Dec.{ltb}
 use lib.ListN.{length, getD, take, drop, length-map}
+use lib.Seq.{getD-set-same, getD-set-other}
 use borrow.Author.Tests.{le-ltb, ltb-true, ltb-false}
+use Rattle.plain.specs.Sizes.{mostW}
 use Rattle.plain.specs.Queue.{Item, booking, reading, isConfirmed}
 use Rattle.plain.specs.Steps.{Class, backed, begun}
 use Rattle.plain.specs.Site.{named}
@@ -32,12 +34,13 @@ use Rattle.store.proofs.Queried.{Settled, Upto, settledOn, upto-skip, u
 use Rattle.store.proofs.Relaid.{by-slot}
 use Rattle.store.proofs.Settle.{settle-empty, settle-confirmed, settle-back}
 
--- of each class where its waiting ones begin; and of each that the mask names that one more fits its queue
+-- of each class where its waiting ones begin, and its sum, at most W; and of each that the mask names that one more fits its queue
 pub record Ready (s : Store) (m : ℕ) (firsts : List ℕ) : Type 0 where
   pub fits : (d : ℕ) → d < 16 → getD firsts d 0 ≤ length (queueOf s d)
   pub ahead : (d : ℕ) → d < 16 → All Confirmed (take (getD firsts d 0) (queueOf s d))
   pub behind : (d : ℕ) → d < 16 → All Waiting (drop (getD firsts d 0) (queueOf s d))
   pub room : (d : ℕ) → d < 16 → named m d ≡ true → length (queueOf s d) < 136
+  pub few : (d : ℕ) → d < 16 → getD (s .sums) d 0 ≤ mostW
 
 -- AFTER THE CLASSES BEFORE c of a query of mask m that takes index p when n confirmations are taken: as Upto has it, in shape, and no count of put-backs near
 -- its bound
@@ -101,6 +104,9 @@ module _ {s t : Store} {base wrk wrk′ : List ℕ} {m p n c : ℕ} {firsts : Li
 
   pub to-fits : to ≤ lenOf t c
   to-fits = omega (arith, count, ap length same-queue, u .ready .fits c l)
+
+  pub sum-here : getD (t .sums) c 0 ≤ mostW
+  sum-here = let e : getD (t .sums) c 0 ≡ getD (s .sums) c 0 + 0 = u .upto .sums c l ∙ rw (le-ltb c c (omega arith)) in omega (arith, u .ready .few c l)
 
   ahead : All Confirmed (take to (queueOf t c))
   ahead = rw same-queue (u .ready .ahead c l)
@@ -181,7 +187,9 @@ module _ {s t : Store} {base wrk wrk′ : List ℕ} {m p n c : ℕ} {firsts : Li
     right = u .right;
     upto = rw (add-one c) (upto-more s t base wrk wrk′ m p n c (u .upto) t₁ t₂ wrk₁ to (v .classes) (put .shape) l (u .index) here (put .settled)
         (subst (λ (a : ℕ). Enters t₁ t₂ c p to a (v .classes)) is (enters t₁ t₂ (put .shape) (put .settled .laid) c p to v l (u .index) room fits e g))
-        (omega (arith, ap length queue-is, settled-length (queueOf t c) (cellsOf base c) (cellsOf wrk′ c), count, to-fits)) (both .0) (both .1));
+        (omega (arith, ap length queue-is, settled-length (queueOf t c) (cellsOf base c) (cellsOf wrk′ c), count, to-fits)) (both .0) (both .1)
+        (ap (λ (r : List ℕ). getD r c 0) (e .sums) ∙ getD-set-same (t₁ .sums) c _ 0 (omega (arith, put .shape .sums)))
+        (λ d _ ne. ap (λ (r : List ℕ). getD r d 0) (e .sums) ∙ getD-set-other (t₁ .sums) c d _ 0 ne));
     shape = entered-shape t₁ t₂ (put .shape) (put .settled .laid) c p to v l (u .index) room fits e small;
     cells = put .cells;
     backs = λ i l. rw (e .slots) (put .backs i l);

@@ -8,6 +8,7 @@ use borrow.Author.Tests.{ltb-true, ltb-false}
 use Rattle.plain.proofs.Tests.{by-test}
 use Rattle.queries.specs.declared.Query.{Query}
 use Rattle.queries.specs.Table.{freeQuery}
+use Rattle.store.proofs.Summing.{sums-of, sums-in}
 use mathlib.Core.List.{List, map}
 use Rattle.slots.specs.Meaning.{isUsed}
 use Rattle.store.proofs.Agree.{agree-all, agree-at}
@@ -15,7 +16,7 @@ use Rattle.store.proofs.Places.{ordered, past-of, places-of, tails-of}
 use Rattle.store.proofs.KeptIds.{differ-of, apart-of}
 use Rattle.store.proofs.Tally.{queued-confirmed}
 use Rattle.store.specs.Checks.{CellsOk, Differ, FreeIn, KeptOk, LaidIn, PlacesIn, Tails, idsOf, numbered, numbersOf}
-use Rattle.store.specs.Sound.{BacksOk, FreeZero, Laid, Once, Short, SlotsOk, Sound, Unused}
+use Rattle.store.specs.Sound.{BacksOk, FreeZero, Laid, Once, Short, SlotsOk, Sound, SumsOk, Unused}
 use Rattle.store.specs.Store.{Shaped, Store}
 use Rattle.usedmap.specs.Flags.{usedOf}
 
@@ -30,8 +31,8 @@ module _ (s : Store) (w : Shaped s) where
 
   module _ (base wrk : List ℕ) where
     pub sound-of : Laid s → Differ (idsOf (s .slots)) (numbersOf (s .slots)) → PlacesIn s → s .commits ≤ s .confirmations → s .confirmations - s .commits ≡ numbered (numbersOf (s .slots)) 128 → CellsOk s base wrk
-        → KeptOk (idsOf (s .slots)) (numbersOf (s .slots)) (s .confirmations) (s .kept) → BacksOk (s .slots) (s .confirmations + s .begun) → Sound s base wrk
-    sound-of h d p l n k ids b = record {
+        → KeptOk (idsOf (s .slots)) (numbersOf (s .slots)) (s .confirmations) (s .kept) → BacksOk (s .slots) (s .confirmations + s .begun) → SumsOk s → Sound s base wrk
+    sound-of h d p l n k ids b sums = record {
       laid = h;
       ids-differ = d .ids;
       confirmed-before-waiting = λ c m. ordered s w (h .not-longer-than-136) c m p .0;
@@ -40,6 +41,7 @@ module _ (s : Store) (w : Shaped s) where
       backs-bounded = b;
       only-a-head-done = λ c m. ordered s w (h .not-longer-than-136) c m p .1;
       working-cells-follow = k;
+      sums-right = sums;
       kept-not-zero = ids .filled .not-zero;
       kept-differ = differ-of (s .confirmations) (s .kept) (ids .filled .not-zero) (ids .apart);
       kept-queued = ids .matching;
@@ -51,7 +53,7 @@ module _ (s : Store) (w : Shaped s) where
     sound-from ok laid cells ids few =
         sound-of
         (laid-of ok (laid .short) (laid .tails) (agree-all (s .low) (s .high) (s .slots) (w .slots) (laid .map)) (laid .once) (ids .filled .unused) (free-of s w (laid .free-zero)))
-        (laid .differ) (laid .places) (omega (arith, laid .tally)) (omega (arith, laid .tally)) cells ids few
+        (laid .differ) (laid .places) (omega (arith, laid .tally)) (omega (arith, laid .tally)) cells ids few (sums-of s w ok (laid .short) (laid .once) (laid .sums-right))
 
     module _ (h : Sound s base wrk) where
       pub tails-in : Tails (s .queue) (s .lens)
@@ -81,6 +83,7 @@ module _ (s : Store) (w : Shaped s) where
         once = h .laid .exactly-once;
         differ = differ-in;
         places = places-in;
+        sums-right = sums-in s w (h .laid .free-or-valid) (h .laid .not-longer-than-136) (h .laid .exactly-once) (h .sums-right);
         free-zero = λ p _. h .laid .free-queries-zero p;
         tally = tally-in;
       }

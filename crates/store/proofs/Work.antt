@@ -8,8 +8,8 @@ use mathlib.Core.Option.{Option, none, some}
 use mathlib.Core.List.{List, [], _∷_, _++_}
 use lib.Dec.{eqb, ltb}
 use lib.ListN.{length, getD, take, drop, set, replicate, length-set, List·getD-map}
-use lib.Seq.{getD-take, map-set-same}
-use borrow.Author.Tests.{eqb-false, eq-eqb, ne-eqb, lt-ltb, le-ltb, le-leb, lt-leb, ltb-true, ltb-false}
+use lib.Seq.{getD-take, map-set-same, getD-set-same, getD-set-other}
+use borrow.Author.Tests.{eqb-false, eq-eqb, ne-eqb, lt-ltb, le-ltb, le-leb, lt-leb, ltb-true, ltb-false, eqb-true}
 use borrow.Rule.Slice.PartMut.{putMid, same-len-mid}
 use Rattle.plain.specs.Ops as P
 use Rattle.plain.specs.Queue as Q
@@ -29,7 +29,9 @@ use Rattle.slots.specs.declared.Slot.{Slot}
 use Rattle.store.proofs.Canonical.{part-is, places-length, slot-item, slot-stands}
 use Rattle.store.proofs.Cells.{lent, lent-long}
 use Rattle.store.proofs.Commit.{head-is, stands-class}
-use Rattle.store.proofs.Meant.{used-holds}
+use Rattle.store.proofs.Meant.{to-plain, used-holds}
+use Rattle.store.proofs.Summed.{work-sum}
+use Rattle.plain.proofs.Costs.{headConfirmed}
 use Rattle.store.proofs.Offered.{accepted-call, not-done}
 use Rattle.store.proofs.Promise.{same-trans, sound-kept}
 use Rattle.store.proofs.Relaid.{Queued, at-stored, by-slot, items-kept, means}
@@ -37,7 +39,7 @@ use Rattle.plain.proofs.Sums.{sum-term}
 use Rattle.store.specs.Calls.{Did, RightCells, SoundState, State, plainOf}
 use Rattle.store.specs.Meaning.{Same, cellsOf, items, lenOf, places, plain, plainClass, queueOf}
 use Rattle.store.specs.Sound.{Cells, Laid, stands, standsAt, times}
-use Rattle.store.specs.Steps.{CommitDone, Commitable, headSlot, headTried, withSlot}
+use Rattle.store.specs.Steps.{CommitDone, Commitable, headSlot, headTried, oneLess, withSlot, withSums}
 use Rattle.store.specs.Store.{Shaped, Store, queryAt}
 
 -- a slot in use takes another value of the same record: the site stays laid out, and no queue's places change
@@ -69,6 +71,18 @@ module _ (s : Store) (w : Shaped s) (h : Laid s) (i : ℕ) (m : i < 128) (u : Sl
         own = part-is s w h c l ∙ ap (λ (k : ℕ). places s c ++ replicate (136 - k) 0) (sym n);
         others = λ d k ne. (refl, refl);
       }
+
+-- other sums leave it laid out
+pub laid-sums : (s : Store) (sums : List ℕ) → Laid s → Laid (withSums s sums)
+laid-sums s sums h = record {
+  free-or-valid = h .free-or-valid;
+  not-longer-than-136 = h .not-longer-than-136;
+  exactly-once = h .exactly-once;
+  past-the-end-zero = h .past-the-end-zero;
+  map-agrees = h .map-agrees;
+  unused-zero = h .unused-zero;
+  free-queries-zero = h .free-queries-zero;
+}
 
 -- the plain entry's next operation is the slot's
 module _ (i : ℕ) (v : Slot) (seven : length (v .ops) ≡ 7) (holds : Holds v) (left : v .done < v .count) (w : List ℕ) where
@@ -239,17 +253,22 @@ module _ (x : State) (w : Shaped (x .site)) (r : RightCells x) (q : SoundState x
             of-class : v .class ≡ c
             of-class = stands-class c v (times i ps) (sym once-here ∙ rw (eq-eqb i i refl))
 
-        module _ (wrk′ : List ℕ) (own : cellsOf wrk′ c ≡ cells) (others : (d : ℕ) → (d ≡ c → ⊥) → cellsOf wrk′ d ≡ cellsOf wrk d) (n : length wrk′ ≡ 1024) where
+        -- with the sums that are right then
+        module _ (wrk′ : List ℕ) (own : cellsOf wrk′ c ≡ cells) (others : (d : ℕ) → (d ≡ c → ⊥) → cellsOf wrk′ d ≡ cellsOf wrk d) (n : length wrk′ ≡ 1024)
+            (ss : List ℕ) (right-sums : (d : ℕ) → d < 16 → getD ss d 0 ≡ Q.confirmedCosts (S.call p k .site .class d .queue)) where
           abbrev y : State
-          y = record { site = withSlot s i u; committed = x .committed; working = wrk′ }
+          y = record { site = withSums (withSlot s i u) ss; committed = x .committed; working = wrk′ }
 
           -- the head stays at the head
           stays : (a : K.Answer) → S.commitsBy a ≡ 0 → did ≡ record { class = record { queue = Q.booking (entryOf i u) ∷ rest; committed = cellsOf base c; working = cells }; answer = a } → Did x k y a
           stays a z e =
               let o : S.call p k ≡ S.inClass p c none (record { class = record { queue = Q.booking (entryOf i u) ∷ rest; committed = cellsOf base c; working = cells }; answer = a }) = outcome ∙ ap (S.inClass p c none) e in
-              let m : Same (plainOf y) (S.call p k .site) = rw o (means s (withSlot s i u) c (places s c) (kept-queued s w (q .laid) i small u refl refl after-held c l) base wrk base wrk′ none (record { class = record { queue = Q.booking (entryOf i u) ∷ rest; committed = cellsOf base c; working = cells }; answer = a })
+              let m : Same (plainOf y) (S.call p k .site) = rw o (means s (withSums (withSlot s i u) ss) c (places s c) (queued-sums (kept-queued s w (q .laid) i small u refl refl after-held c l)) base wrk base wrk′ none (record { class = record { queue = Q.booking (entryOf i u) ∷ rest; committed = cellsOf base c; working = cells }; answer = a })
               queue-after refl own others-after (λ d m ne. (refl, others d ne)) (omega arith) (rw z (omega arith)) refl (λ n r. refl)) in
-              record { cells = (r .0, n); sound = sound-kept x y k w (length-set (s .slots) i u ∙ w .slots) (w .queries) q after-laid m; site = m; answer = rw o }
+              record { cells = (r .0, n); sound = sound-kept x y k w (length-set (s .slots) i u ∙ w .slots) (w .queries) q (laid-sums (withSlot s i u) ss after-laid) m right-sums; site = m; answer = rw o }
+            where
+              queued-sums : Queued s (withSlot s i u) c (places s c) → Queued s (withSums (withSlot s i u) ss) c (places s c)
+              queued-sums g = record { fits = g .fits; len = g .len; own = g .own; others = g .others }
 
           pub work-stepped : suc (v .done) < v .count → Did x k y (K.stepped (v .id) (suc (v .done)))
           work-stepped h = stays _ refl (rw (long, lt-leb (v .count) (suc (v .done)) h))
@@ -257,23 +276,40 @@ module _ (x : State) (w : Shaped (x .site)) (r : RightCells x) (q : SoundState x
           pub work-executed : v .count ≤ suc (v .done) → v .number ≡ 0 → Did x k y (K.executed (v .id))
           work-executed h z = stays _ refl (rw (long, le-leb (v .count) (suc (v .done)) h, le-ltb 0 (v .number) (omega arith)))
 
-          between : Same (S.inClass (plain (withSlot s i u) base wrk′) c none (K.commit (Q.booking (entryOf i u)) (items (set (s .slots) i u) (s .queries) ps) (cellsOf wrk′ c)) .site)
+          between : Same (S.inClass (plain (withSums (withSlot s i u) ss) base wrk′) c none (K.commit (Q.booking (entryOf i u)) (items (set (s .slots) i u) (s .queries) ps) (cellsOf wrk′ c)) .site)
               (S.inClass p c none (K.commit (Q.booking (entryOf i u)) rest cells) .site)
           unfolding plain plainClass
-          between = same-in (plain (withSlot s i u) base wrk′) p c none (K.commit (Q.booking (entryOf i u)) (items (set (s .slots) i u) (s .queries) ps) (cellsOf wrk′ c)) (K.commit (Q.booking (entryOf i u)) rest cells)
+          between = same-in (plain (withSums (withSlot s i u) ss) base wrk′) p c none (K.commit (Q.booking (entryOf i u)) (items (set (s .slots) i u) (s .queries) ps) (cellsOf wrk′ c)) (K.commit (Q.booking (entryOf i u)) rest cells)
               (λ d m ne. λ j. record { queue = others-after d m ne j; committed = cellsOf base d; working = others d ne j }) refl refl refl (λ n r. refl)
               (λ j. record { queue = items-kept (s .slots) i u (omega (arith, w .slots, small)) (s .queries) ps gone j; committed = own j; working = own j }) refl
 
-          pub work-committed : v .count ≤ suc (v .done) → 0 < v .number → (t : Store) (base′ : List ℕ) → CommitDone (withSlot s i u) base wrk′ c t base′
+          pub work-committed : v .count ≤ suc (v .done) → 0 < v .number → (t : Store) (base′ : List ℕ) → CommitDone (withSums (withSlot s i u) ss) base wrk′ c t base′
               → Did x k (record { site = t; committed = base′; working = wrk′ }) (K.committed (v .id) (v .number) (P.markOf tr) i (v .backs))
           work-committed h z t base′ d =
               let e : did ≡ K.commit (Q.booking (entryOf i u)) rest cells = rw (long, le-leb (v .count) (suc (v .done)) h, lt-ltb 0 (v .number) z) in
               let o : S.call p k ≡ S.inClass p c none (K.commit (Q.booking (entryOf i u)) rest cells) = outcome ∙ ap (S.inClass p c none) e in
               let m : Same (plain t base′ wrk′) (S.call p k .site) = rw o (same-trans (d .site (entryOf i u)) between) in
-              record { cells = (d .cells, n); sound = sound-kept x (record { site = t; committed = base′; working = wrk′ }) k w (d .slots ∙ length-set (s .slots) i u ∙ w .slots) (ap length (d .queries) ∙ w .queries) q (d .laid) m; site = m; answer = rw o }
+              record { cells = (d .cells, n); sound = sound-kept x (record { site = t; committed = base′; working = wrk′ }) k w (d .slots ∙ length-set (s .slots) i u ∙ w .slots) (ap length (d .queries) ∙ w .queries) q (d .laid) m (λ c l. ap (λ (z : List ℕ). getD z c 0) (d .sums) ∙ right-sums c l); site = m; answer = rw o }
 
-        -- the code's way to it: the class's part of the working cells lent and back, and the slot as the operation left it
-        module _ (z : Slot) (after : List ℕ) (n : length after ≡ length (lent wrk c)) (d : StepDone v (lent base c) (lent wrk c) z after) where
+        -- the sums: one less where the head is confirmed
+        pub sums-after : (d : ℕ) → d < 16 → getD (set (s .sums) c (oneLess (getD (s .sums) c 0) (v .number))) d 0 ≡ Q.confirmedCosts (S.call p k .site .class d .queue)
+        unfolding plain plainClass
+        sums-after d m =
+            by-test (eqb d c)
+            (λ t. let z : d ≡ c = eqb-true d c t in
+            rw z (getD-set-same (s .sums) c _ 0 (omega (arith, w .sums)) ∙ rw (q .sums-right c l) (sym (after c ∙ rw (eq-eqb c c refl, head-first)))))
+            (λ f. let ne = eqb-false d c f in
+            getD-set-other (s .sums) c d _ 0 ne ∙ q .sums-right d m ∙ sym (after d ∙ rw (ne-eqb d c ne)))
+          where
+            after : (d : ℕ) → Q.confirmedCosts (S.call p k .site .class d .queue) ≡ cond (eqb d c) (Q.confirmedCosts (queueOf s c) - cond (headConfirmed (queueOf s c)) 1 0) (Q.confirmedCosts (queueOf s d))
+            after d = work-sum p (to-plain s (w .slots) (w .queries) (q .laid) base wrk q) c (rw accepted) d
+
+            head-first : headConfirmed (queueOf s c) ≡ ltb 0 (v .number)
+            head-first = rw head
+
+        -- the code's way to it: the class's part of the working cells lent and back, the slot as the operation left it, and the sum
+        module _ (z : Slot) (after : List ℕ) (n : length after ≡ length (lent wrk c)) (d : StepDone v (lent base c) (lent wrk c) z after)
+            (sum : ℕ) (less : sum ≡ oneLess (getD (s .sums) c 0) (v .number)) where
           abbrev wrk′ : List ℕ
           wrk′ = putMid (64 * c) (64 * c + 64 - 64 * c) wrk after
 
@@ -296,24 +332,30 @@ module _ (x : State) (w : Shaped (x .site)) (r : RightCells x) (q : SoundState x
           others k ne = rw as-lent (put-apart (64 * c) 64 wrk after (omega (arith, r .1)) m (64 * k) 64
               (by-test (ltb k c) (λ t. let y = ltb-true k c t in inl (omega arith)) (λ f. let y = ltb-false k c f in inr (omega arith))))
 
-          pub stepped-as : z .done < z .count → Did x k (record { site = withSlot s i z; committed = x .committed; working = wrk′ }) (K.stepped (z .id) (z .done))
+          abbrev ss : List ℕ
+          ss = set (s .sums) c sum
+
+          summed : (d : ℕ) → d < 16 → getD (set (s .sums) c sum) d 0 ≡ Q.confirmedCosts (S.call p k .site .class d .queue)
+          summed d b = ap (λ (a : ℕ). getD (set (s .sums) c a) d 0) less ∙ sums-after d b
+
+          pub stepped-as : z .done < z .count → Did x k (record { site = withSums (withSlot s i z) ss; committed = x .committed; working = wrk′ }) (K.stepped (z .id) (z .done))
           stepped-as =
-              subst (λ (z : Slot). z .done < z .count → Did x k (record { site = withSlot s i z; committed = x .committed; working = wrk′ }) (K.stepped (z .id) (z .done)))
-              (sym is) (work-stepped wrk′ own others right)
+              subst (λ (z : Slot). z .done < z .count → Did x k (record { site = withSums (withSlot s i z) ss; committed = x .committed; working = wrk′ }) (K.stepped (z .id) (z .done)))
+              (sym is) (work-stepped wrk′ own others right ss summed)
 
-          pub executed-as : z .count ≤ z .done → z .number ≡ 0 → Did x k (record { site = withSlot s i z; committed = x .committed; working = wrk′ }) (K.executed (z .id))
+          pub executed-as : z .count ≤ z .done → z .number ≡ 0 → Did x k (record { site = withSums (withSlot s i z) ss; committed = x .committed; working = wrk′ }) (K.executed (z .id))
           executed-as =
-              subst (λ (z : Slot). z .count ≤ z .done → z .number ≡ 0 → Did x k (record { site = withSlot s i z; committed = x .committed; working = wrk′ }) (K.executed (z .id)))
-              (sym is) (work-executed wrk′ own others right)
+              subst (λ (z : Slot). z .count ≤ z .done → z .number ≡ 0 → Did x k (record { site = withSums (withSlot s i z) ss; committed = x .committed; working = wrk′ }) (K.executed (z .id)))
+              (sym is) (work-executed wrk′ own others right ss summed)
 
-          pub may-commit : 0 < z .number → s .confirmations ≤ 4294967295 → Commitable (withSlot s i z) base wrk′ c
+          pub may-commit : 0 < z .number → s .confirmations ≤ 4294967295 → Commitable (withSums (withSlot s i z) ss) base wrk′ c
           may-commit =
-              subst (λ (z : Slot). 0 < z .number → s .confirmations ≤ 4294967295 → Commitable (withSlot s i z) base wrk′ c) (sym is)
-              (λ n m. record { laid = after-laid; class = l; some = has; cells = (r .0, right); count = omega (arith, commits-less n); request = request })
+              subst (λ (z : Slot). 0 < z .number → s .confirmations ≤ 4294967295 → Commitable (withSums (withSlot s i z) ss) base wrk′ c) (sym is)
+              (λ n m. record { laid = laid-sums (withSlot s i u) ss after-laid; class = l; some = has; cells = (r .0, right); count = omega (arith, commits-less n); request = request })
 
-          pub committed-as : z .count ≤ z .done → 0 < z .number → (t : Store) (base′ : List ℕ) → CommitDone (withSlot s i z) base wrk′ c t base′
+          pub committed-as : z .count ≤ z .done → 0 < z .number → (t : Store) (base′ : List ℕ) → CommitDone (withSums (withSlot s i z) ss) base wrk′ c t base′
               → Did x k (record { site = t; committed = base′; working = wrk′ }) (K.committed (z .id) (z .number) (z .mark) i (z .backs))
           committed-as =
-              subst (λ (z : Slot). z .count ≤ z .done → 0 < z .number → (t : Store) (base′ : List ℕ) → CommitDone (withSlot s i z) base wrk′ c t base′
+              subst (λ (z : Slot). z .count ≤ z .done → 0 < z .number → (t : Store) (base′ : List ℕ) → CommitDone (withSums (withSlot s i z) ss) base wrk′ c t base′
               → Did x k (record { site = t; committed = base′; working = wrk′ }) (K.committed (z .id) (z .number) (z .mark) i (z .backs))) (sym is)
-              (work-committed wrk′ own others right)
+              (work-committed wrk′ own others right ss summed)

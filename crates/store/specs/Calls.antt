@@ -61,6 +61,7 @@ fresh = record {
   kept = replicate keptCount 0;
   queries = replicate queryCount freeQuery;
   begun = 0;
+  sums = replicate classCount 0;
 }
 
 -- FRESH takes no site: an empty one comes back, the number 0 and all cells 0; with wrong cells the number 1 and every cell as it was

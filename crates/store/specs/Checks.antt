@@ -47,7 +47,8 @@ numbersOf l i = slotAt l i .number
 abbrev pub nth : List ℕ → ℕ → ℕ
 nth l i = getD l i 0
 
--- of what a queue place b names: by what it stands in line; its done operations and mark, 0 for an entry
+-- of what a queue place b names: by what it stands in line; its done operations and mark, 0 for an entry; and the work calls that it takes where it is
+-- confirmed, else 0
 abbrev pub lineIn : List Slot → List Query → ℕ → ℕ
 lineIn l table b = cond (ltb b slotCount) (slotAt l b .number) (queryAt table (b - slotCount) .begun)
 
@@ -56,6 +57,12 @@ doneIn l b = cond (ltb b slotCount) (slotAt l b .done) 0
 
 abbrev pub markIn : List Slot → ℕ → ℕ
 markIn l b = cond (ltb b slotCount) (slotAt l b .mark) 0
+
+abbrev pub due : (number count done : ℕ) → ℕ
+due number count done = cond (eqb number 0) 0 (count - done)
+
+abbrev pub dueIn : List Slot → ℕ → ℕ
+dueIn l b = cond (ltb b slotCount) (due (slotAt l b .number) (slotAt l b .count) (slotAt l b .done)) (cond (ltb b mostQueued) 1 0)
 
 abbrev pub lineAt : Store → ℕ → ℕ
 lineAt s = lineIn (s .slots) (s .queries)
@@ -73,10 +80,11 @@ pub record Owned (l : List Slot) (ids classes : List ℕ) : Type 0 where
 pub record Staged (l : List Slot) (numbers : List ℕ) : Type 0 where
   pub number : nth numbers ≡ numbersOf l
 
-pub record Lined (l : List Slot) (table : List Query) (lines dones marks : List ℕ) : Type 0 where
+pub record Lined (l : List Slot) (table : List Query) (lines dones marks dues : List ℕ) : Type 0 where
   pub line : nth lines ≡ lineIn l table
   pub done : nth dones ≡ doneIn l
   pub mark : nth marks ≡ markIn l
+  pub due : nth dues ≡ dueIn l
 
 -- a slot's class is one of the 16
 abbrev pub Classed : (ℕ → ℕ) → Type 0
@@ -196,6 +204,14 @@ Named queue a len = (p : ℕ) → p < len → nth queue (a + p) < mostQueued
 abbrev pub InRange : (queue lens : List ℕ) → Type 0
 InRange queue lens = (c : ℕ) → c < classCount → Named queue (mostQueued * c) (nth lens c)
 
+-- the work calls that the confirmed part of a queue takes which begins at a
+unfoldable pub sumOf : (due : ℕ → ℕ) → List ℕ → (a len : ℕ) → ℕ
+sumOf due queue a len = sum (λ p. due (nth queue (a + p))) len
+
+-- the sum that stands with each class is that of its queue
+abbrev pub SumsIn : (due : ℕ → ℕ) → (queue lens sums : List ℕ) → Type 0
+SumsIn due queue lens sums = (c : ℕ) → c < classCount → nth sums c ≡ sumOf due queue (mostQueued * c) (nth lens c)
+
 -- how many slots hold a number
 unfoldable pub numbered : (ℕ → ℕ) → ℕ → ℕ
 numbered number n = sum (λ i. cond (eqb (number i) 0) 0 1) n
@@ -235,19 +251,20 @@ pub record KeptOk (id number : ℕ → ℕ) (top : ℕ) (kept : List ℕ) : Type
   pub matching : Matching id number top kept
 
 -- the rules of lengths, queue places, map, ids, numbers, counts and queries together
-pub record LaidOut (id class number line done mark : ℕ → ℕ) (queue lens : List ℕ) (table : List Query) (low high top commits : ℕ) : Type 0 where
+pub record LaidOut (id class number line done mark due : ℕ → ℕ) (queue lens sums : List ℕ) (table : List Query) (low high top commits : ℕ) : Type 0 where
   pub short : Short lens
   pub tails : Tails queue lens
   pub map : MapOf low high id
   pub once : OnceIn (hasId id) class table queue lens
   pub differ : Differ id number
   pub places : PlacesOk line done mark queue lens top
+  pub sums-right : SumsIn due queue lens sums
   pub free-zero : FreeIn table
   pub tally : top ≡ commits + numbered number slotCount
 
 abbrev pub LaidIn : Store → Type 0
 LaidIn s =
-    LaidOut (idsOf (s .slots)) (classesOf (s .slots)) (numbersOf (s .slots)) (lineAt s) (doneIn (s .slots)) (markIn (s .slots)) (s .queue) (s .lens)
+    LaidOut (idsOf (s .slots)) (classesOf (s .slots)) (numbersOf (s .slots)) (lineAt s) (doneIn (s .slots)) (markIn (s .slots)) (dueIn (s .slots)) (s .queue) (s .lens) (s .sums)
     (s .queries) (s .low) (s .high) (s .confirmations) (s .commits)
 
 -- what stands at the head of class c; 128 where its queue is empty

@@ -7,7 +7,7 @@ use mathlib.Core.List.{List, [], _∷_, map}
 use lib.Dec.{eqb, ltb}
 use lib.ListN.{getD, drop, replicate}
 use Rattle.plain.specs.Sizes.{classCount, slotCount, mostQueued, keptCount}
-use Rattle.plain.specs.Queue.{Item, hasNumber, count}
+use Rattle.plain.specs.Queue.{Item, hasNumber, count, confirmedCosts}
 use Rattle.plain.specs.Site.{sum, named, Recent}
 use Rattle.plain.specs.Sound.{All, Untouched, InOrder, AtHead}
 use Rattle.usedmap.specs.Flags.{usedOf}
@@ -84,6 +84,10 @@ abbrev pub Cells : List Item → List ℕ → List ℕ → Type 0
 Cells [] base w = w ≡ base
 Cells (x ∷ q) base w = AtHead x base w
 
+-- with each class stand the work calls that its confirmed part takes
+abbrev pub SumsOk : Store → Type 0
+SumsOk s = (c : ℕ) → c < classCount → getD (s .sums) c 0 ≡ confirmedCosts (queueOf s c)
+
 -- A SITE IS SOUND, with its cells
 pub record Sound (s : Store) (base wrk : List ℕ) : Type 0 where
   pub laid : Laid s
@@ -99,6 +103,7 @@ pub record Sound (s : Store) (base wrk : List ℕ) : Type 0 where
   pub backs-bounded : BacksOk (s .slots) (s .confirmations + s .begun)
   pub only-a-head-done : (c : ℕ) → c < classCount → Rest (queueOf s c)
   pub working-cells-follow : (c : ℕ) → c < classCount → Cells (queueOf s c) (cellsOf base c) (cellsOf wrk c)
+  pub sums-right : SumsOk s
   -- kept ids are not 0
   pub kept-not-zero : (n : ℕ) → Recent (s .confirmations) n → 0 < keptAt s n
   -- kept ids differ

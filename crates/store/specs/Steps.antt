@@ -33,6 +33,7 @@ placed s c i v lo hi = record {
   kept = s .kept;
   queries = s .queries;
   begun = s .begun;
+  sums = s .sums;
 }
 
 -- slot i takes v, and nothing else changes
@@ -48,6 +49,23 @@ withSlot s i v = record {
   kept = s .kept;
   queries = s .queries;
   begun = s .begun;
+  sums = s .sums;
+}
+
+-- the sums are these, and nothing else changes
+abbrev pub withSums : Store → List ℕ → Store
+withSums s sums = record {
+  slots = s .slots;
+  queue = s .queue;
+  lens = s .lens;
+  low = s .low;
+  high = s .high;
+  confirmations = s .confirmations;
+  commits = s .commits;
+  kept = s .kept;
+  queries = s .queries;
+  begun = s .begun;
+  sums = sums;
 }
 
 -- what stands at the head of class c: a slot, or from 128 on a query
@@ -57,6 +75,19 @@ headSlot s c = getD (s .queue) (136 * c) 0
 -- what its next operation comes to
 abbrev pub headTried : Store → List ℕ → ℕ → Ran
 headTried s wrk c = triedBy (slotAt (s .slots) (headSlot s c)) (cellsOf wrk c)
+
+-- THE SUM that stands with class c, after a step there: a work call takes one off where the head is confirmed, which has this number; an entry that is
+-- read counts as confirmed
+abbrev pub oneLess : ℕ → ℕ → ℕ
+oneLess sum number = sum - cond (ltb 0 number) 1 0
+
+-- a confirmation adds what its request, in slot i, still takes
+abbrev pub sumWith : Store → ℕ → ℕ → ℕ
+sumWith s c i = getD (s .sums) c 0 + (slotAt (s .slots) i .count - slotAt (s .slots) i .done)
+
+-- a query adds one for its entry
+abbrev pub withEntry : ℕ → ℕ
+withEntry sum = sum + 1
 
 -- class c has a head that may commit
 pub record Commitable (s : Store) (base wrk : List ℕ) (c : ℕ) : Type 0 where
@@ -75,6 +106,7 @@ pub record CommitDone (s : Store) (base wrk : List ℕ) (c : ℕ) (t : Store) (b
   pub cells : length base′ ≡ 1024
   pub site : (e : Q.Entry) → Same (plain t base′ wrk) (S.inClass (plain s base wrk) c none (K.commit (Q.booking e) (items (s .slots) (s .queries) (drop 1 (places s c))) (cellsOf wrk c)) .site)
   pub queries : t .queries ≡ s .queries
+  pub sums : t .sums ≡ s .sums
 
 -- the work calls that what stands at queue place b still takes: one for each operation of a request still to do; an entry of a query is read by one
 abbrev pub leftAt : List Slot → ℕ → ℕ
@@ -124,6 +156,7 @@ numberedStore s i n = record {
   kept = set (s .kept) (n % keptCount) (slotAt (s .slots) i .id);
   queries = s .queries;
   begun = s .begun;
+  sums = s .sums;
 }
 
 -- the place of slot i in class c's queue
@@ -131,12 +164,16 @@ pub record PlaceOf (s : Store) (c i p : ℕ) : Type 0 where
   pub within : p < lenOf s c
   pub is : getD (s .queue) (136 * c + p) 0 ≡ i
 
+-- what stands at a flat place of the queues is a request that waits
+abbrev pub WaitsAt : (number : ℕ → ℕ) → List ℕ → ℕ → Type 0
+WaitsAt number queue b = (getD queue b 0 < 128) × (number (getD queue b 0) ≡ 0)
+
 -- the place of the first waiting one in a queue that begins at flat place a, or its length where none waits, by the number of each slot: before it stand
 -- the confirmed and the entries of queries
 pub record WaitsFrom (number : ℕ → ℕ) (queue : List ℕ) (a len p : ℕ) : Type 0 where
   pub within : p ≤ len
   pub before : (k : ℕ) → k < p → (128 ≤ getD queue (a + k) 0) ⊎ (0 < number (getD queue (a + k) 0))
-  pub waits : p < len → (getD queue (a + p) 0 < 128) × (number (getD queue (a + p) 0) ≡ 0)
+  pub waits : p < len → WaitsAt number queue (a + p)
 
 -- that of class c's queue, and of every class's
 abbrev pub FirstWaiting : Store → ℕ → ℕ → Type 0
@@ -144,6 +181,27 @@ FirstWaiting s c p = WaitsFrom (λ i. slotAt (s .slots) i .number) (s .queue) (1
 
 abbrev pub FirstsWaiting : Store → List ℕ → Type 0
 FirstsWaiting s ends = (c : ℕ) → c < 16 → FirstWaiting s c (getD ends c 0)
+
+-- what stands at place p of class c's queue is confirmed: an entry of a query, or a request with a number
+abbrev pub Passed : Store → ℕ → ℕ → Type 0
+Passed s c p = (128 ≤ getD (s .queue) (136 * c + p) 0) ⊎ (0 < slotAt (s .slots) (getD (s .queue) (136 * c + p) 0) .number)
+
+-- slot i ends the confirmed part of class c's queue: it stands directly before the first that waits
+pub record EndsPart (s : Store) (c i : ℕ) : Type 0 where
+  pub until : ℕ
+  pub first : FirstWaiting s c until
+  pub some : 0 < until
+  pub is : getD (s .queue) (136 * c + (until - 1)) 0 ≡ i
+
+-- W of slot i, if it is not 0, is the sum that stands with its class, and the slot ends the confirmed part there
+abbrev pub KeptW : Store → ℕ → ℕ → Type 0
+KeptW s i w = 0 < w → (w ≡ getD (s .sums) (slotAt (s .slots) i .class) 0) × EndsPart s (slotAt (s .slots) i .class) i
+
+-- in class c's queue all behind a waiting one wait
+abbrev pub WaitingLast : Store → ℕ → Type 0
+WaitingLast s c =
+    (j k : ℕ) → j < k → k < lenOf s c → WaitsAt (λ i. slotAt (s .slots) i .number) (s .queue) (136 * c + j)
+    → WaitsAt (λ i. slotAt (s .slots) i .number) (s .queue) (136 * c + k)
 
 -- slot i of class c has its number, its place `from` has moved forward to `to`, its id is kept, and one confirmation more is counted
 pub record Forward (s : Store) (c i n from to : ℕ) (t : Store) : Type 0 where
@@ -156,3 +214,4 @@ pub record Forward (s : Store) (c i n from to : ℕ) (t : Store) : Type 0 where
   pub kept : t .kept ≡ numberedStore s i n .kept
   pub queries : t .queries ≡ s .queries
   pub begun : t .begun ≡ s .begun
+  pub sums : t .sums ≡ numberedStore s i n .sums

@@ -25,6 +25,8 @@ pub record Store : Type 0 where
   pub queries : List Query
   -- the queries begun
   pub begun : ℕ
+  -- for each class the work calls that its confirmed part takes
+  pub sums : List ℕ
 
 -- the flat queue places: 136 for each class
 abbrev pub placeCount : ℕ
@@ -46,3 +48,4 @@ pub record Shaped (s : Store) : Type 0 where
   pub kept : length (s .kept) ≡ keptCount
   pub queries : length (s .queries) ≡ queryCount
   pub masks : (p : ℕ) → queryAt (s .queries) p .classes < 2 ^ 16
+  pub sums : length (s .sums) ≡ classCount

@@ -1,7 +1,7 @@
 //! A site of plain bytes in the archive's hands, beside the bytes that it should have.
 
 use crate::table::{
-    Field, every_field, kept, len, op, place, query, site, slot, start_of, start_of_query,
+    Field, every_field, kept, len, op, place, query, site, slot, start_of, start_of_query, sum,
 };
 use shpendorak::raw::{
     self, ADD, CELLS, CLASSES, KEPT, MOST_OPS, MOVE, NEED, NUMBERS, Numbers, PUT, RUN_LENGTH, SLOTS,
@@ -130,6 +130,14 @@ impl Hosted {
         self.should.0[field.at..field.at + field.bytes].copy_from_slice(bytes);
     }
 
+    /// Notes that the sum of a class changes by so much.
+    fn should_add(&mut self, class: usize, change: i64) {
+        let Field { at, bytes } = sum(class);
+        let noted = self.should.0[at..at + bytes].iter().rev();
+        let old = noted.fold(0, |sum: u64, &byte| sum << BYTE | u64::from(byte));
+        self.should(sum(class), old.wrapping_add_signed(change));
+    }
+
     /// Notes that a slot is used or free now.
     fn should_use(&mut self, slot: usize, used: bool) {
         let width = u64::BITS as usize;
@@ -174,8 +182,8 @@ impl Hosted {
         self.check(raw::QUEUED);
     }
 
-    /// Confirms the request of a slot; it gets its number, and no more is noted.
-    pub fn confirm(&mut self, slot: usize, number: u32) {
+    /// Confirms the request of a slot, with nothing done; it gets its number, and no more is noted.
+    pub fn confirm(&mut self, slot: usize, class: usize, number: u32) {
         let (c, w) = (self.committed.as_mut_ptr(), self.working.as_mut_ptr());
         let (id, answer) = (id_of(slot).into(), &mut self.answer);
         // SAFETY: both runs have the lengths given, the answer has six numbers.
@@ -186,6 +194,7 @@ impl Hosted {
         self.should(slot::number().from(start_of(slot)), number.into());
         self.should(site::confirmations(), number.into());
         self.should(kept(number), id_of(slot).into());
+        self.should_add(class, MOST_OPS as i64);
         self.check(raw::WAITING);
     }
 
@@ -195,10 +204,11 @@ impl Hosted {
         self.should(place(class, 0), slot as u64);
         self.should(place(class, 1), head as u64);
         self.should(slot::backs().from(start_of(head)), OLD_BACKS + head as u64 + 1);
-        self.confirm(slot, number);
+        self.confirm(slot, class, number);
     }
 
-    /// Works once for a class; what changes is noted by the caller.
+    /// Works once for a class whose head is confirmed or an entry, so that one less is to do; what
+    /// else changes is noted by the caller.
     fn work(&mut self, class: usize) {
         let (c, w) = (self.committed.as_mut_ptr(), self.working.as_mut_ptr());
         let (class, entry, answer) = (class as u64, &mut self.entry, &mut self.answer);
@@ -206,6 +216,7 @@ impl Hosted {
         self.site = unsafe {
             shpendorak_work(self.site, c, RUN_LENGTH, w, RUN_LENGTH, class, entry, answer)
         };
+        self.should_add(class as usize, -1);
     }
 
     /// Begins a query over all classes, which have no requests; it takes a place and stands at the
@@ -223,6 +234,7 @@ impl Hosted {
         for class in 0..CLASSES {
             self.should(place(class, at - 1), (SLOTS + at - 1) as u64);
             self.should(len(class), at as u64);
+            self.should_add(class, 1);
         }
         self.check(raw::BEGUN);
         assert_eq!(self.answer[1], at as u64);

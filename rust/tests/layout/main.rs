@@ -30,7 +30,7 @@ fn numbers_counts_done_and_mark_are_where_the_table_says() {
         hosted.offer(slot, class);
     }
     for slot in 0..SLOTS {
-        hosted.confirm(slot, count + 1 + slot as u32);
+        hosted.confirm(slot, class, count + 1 + slot as u32);
     }
     for slot in 0..SLOTS {
         hosted.work_off(slot, class, SLOTS - slot, count + 1 + slot as u32);
@@ -55,7 +55,7 @@ fn times_put_back_are_where_the_table_says() {
             if slot > done {
                 hosted.overtake(done, slot, class, number);
             } else {
-                hosted.confirm(slot, number);
+                hosted.confirm(slot, class, number);
             }
             hosted.work_off(slot, class, SLOTS - done, number);
         }

@@ -64,10 +64,10 @@ table!(
 );
 table!(query, Query, 8, classes 0 2, begun 4 4,);
 table!(
-    site, Site, 13_552,
+    site, Site, 13_584,
     slots 0 10_240, queue 10_240 2_176, lens 12_416 16, low 12_432 8, high 12_440 8,
     confirmations 12_448 4, commits 12_452 4, kept 12_456 1_024, queries 13_480 64,
-    begun 13_544 4,
+    begun 13_544 4, sums 13_548 32,
 );
 
 /// Where a slot's struct starts.
@@ -93,6 +93,11 @@ pub fn start_of_query(place: usize) -> usize {
 /// The length of a class's queue.
 pub fn len(class: usize) -> Field {
     site::lens().part(class, CLASSES)
+}
+
+/// What is still to do by the confirmed part of a class's queue.
+pub fn sum(class: usize) -> Field {
+    site::sums().part(class, CLASSES)
 }
 
 /// Every field that is no struct: of the operations, the slots, the queries and the site.

@@ -71,6 +71,8 @@ pub fn from_plain(plain: &Site) -> Subject {
             subject.site.queue[class * CLASS_PLACES + place] = name;
         }
         subject.site.lens[class] = queued.queue.len() as u8;
+        let confirmed = queued.queue.iter().filter(|item| !item.is_waiting());
+        subject.site.sums[class] = confirmed.map(Item::to_do).sum::<usize>() as u16;
         let cells = class * CELLS..(class + 1) * CELLS;
         subject.committed[cells.clone()].copy_from_slice(&queued.committed);
         subject.working[cells].copy_from_slice(&queued.working);

@@ -12,6 +12,7 @@ mod numbers;
 mod queries;
 mod queues;
 mod records;
+mod sums;
 
 use crate::subject::Subject;
 use model::random::Random;
@@ -27,7 +28,7 @@ pub struct Rule {
 }
 
 /// Every sound rule, in document 01's order; a new rule is a new row.
-pub static RULES: [Rule; 38] = [
+pub static RULES: [Rule; 39] = [
     Rule {
         words: "a free slot is all zero",
         holds: records::free_slots_are_zero,
@@ -209,6 +210,11 @@ pub static RULES: [Rule; 38] = [
         words: "unused places of kept ids are zero",
         holds: kept::unused_places_are_zero,
         breach: kept::unused_place_filled,
+    },
+    Rule {
+        words: "the sum of a class is that of its confirmed part",
+        holds: sums::sums_are_right,
+        breach: sums::sum_wrong,
     },
 ];
 

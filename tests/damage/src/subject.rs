@@ -20,7 +20,7 @@ pub enum Spot<'a> {
     /// An 8-bit number.
     Byte(&'a mut u8),
     /// A 16-bit number.
-    Mask(&'a mut u16),
+    Half(&'a mut u16),
     /// A 32-bit number.
     Word(&'a mut u32),
     /// A 64-bit number.
@@ -32,7 +32,7 @@ impl Spot<'_> {
     pub fn get(&self) -> u64 {
         match self {
             Spot::Byte(byte) => u64::from(**byte),
-            Spot::Mask(mask) => u64::from(**mask),
+            Spot::Half(half) => u64::from(**half),
             Spot::Word(word) => u64::from(**word),
             Spot::Long(long) => **long,
         }
@@ -42,7 +42,7 @@ impl Spot<'_> {
     pub fn set(&mut self, number: u64) {
         match self {
             Spot::Byte(byte) => **byte = number as u8,
-            Spot::Mask(mask) => **mask = number as u16,
+            Spot::Half(half) => **half = number as u16,
             Spot::Word(word) => **word = number as u32,
             Spot::Long(long) => **long = number,
         }
@@ -52,7 +52,7 @@ impl Spot<'_> {
     pub fn bits(&self) -> usize {
         match self {
             Spot::Byte(_) => u8::BITS as usize,
-            Spot::Mask(_) => u16::BITS as usize,
+            Spot::Half(_) => u16::BITS as usize,
             Spot::Word(_) => u32::BITS as usize,
             Spot::Long(_) => u64::BITS as usize,
         }
@@ -73,7 +73,7 @@ pub struct Field {
 const OPS: usize = SLOTS * MOST_OPS;
 
 /// Every number of a subject; a new field of the site is a new row.
-pub static FIELDS: [Field; 23] = [
+pub static FIELDS: [Field; 24] = [
     Field { name: "id", count: SLOTS, spot: |s, at| Spot::Word(&mut s.site.slots[at].id) },
     Field { name: "class", count: SLOTS, spot: |s, at| Spot::Byte(&mut s.site.slots[at].class) },
     Field { name: "count", count: SLOTS, spot: |s, at| Spot::Byte(&mut s.site.slots[at].count) },
@@ -95,7 +95,7 @@ pub static FIELDS: [Field; 23] = [
     Field {
         name: "mask",
         count: QUERIES,
-        spot: |s, at| Spot::Mask(&mut s.site.queries[at].classes),
+        spot: |s, at| Spot::Half(&mut s.site.queries[at].classes),
     },
     Field {
         name: "begun",
@@ -103,6 +103,7 @@ pub static FIELDS: [Field; 23] = [
         spot: |s, at| Spot::Word(&mut s.site.queries[at].begun),
     },
     Field { name: "queries", count: 1, spot: |s, _| Spot::Word(&mut s.site.begun) },
+    Field { name: "sum", count: CLASSES, spot: |s, at| Spot::Half(&mut s.site.sums[at]) },
     Field { name: "committed", count: RUN_LENGTH, spot: |s, at| Spot::Word(&mut s.committed[at]) },
     Field { name: "working", count: RUN_LENGTH, spot: |s, at| Spot::Word(&mut s.working[at]) },
 ];
@@ -142,6 +143,7 @@ impl Subject {
             kept: [0; KEPT],
             queries: [Query::default(); QUERIES],
             begun: 0,
+            sums: [0; CLASSES],
         };
         Subject { site, committed: vec![0; RUN_LENGTH], working: vec![0; RUN_LENGTH] }
     }

@@ -5,8 +5,9 @@ use model::event::Event;
 use model::maker::{Maker, Weights};
 use model::record::CLASSES;
 
-/// Out of a hundred calls, how many look.
+/// Out of a hundred calls, how many look in usual traffic, and where a display asks all the time.
 const LOOKS: usize = 8;
+const DISPLAY_LOOKS: usize = 50;
 /// Out of a hundred calls, how many begin a query; now and then over no class.
 const QUERIES: usize = 2;
 /// Out of a hundred looks, how many are for an id that is not queued.
@@ -24,20 +25,23 @@ const SHRINKING: Weights = Weights { offer: 2, confirm: 20, work: 66 };
 /// Calls that only fill the site.
 const FILLING: Weights = Weights { offer: 100, confirm: 0, work: 0 };
 
-/// A load: its name, and about how many requests are queued.
+/// A load: its name, about how many requests are queued, and how many calls look.
 #[derive(Clone, Copy, Debug)]
 pub struct Load {
     /// The name.
     pub name: &'static str,
     /// How many requests the calls keep queued, about.
     pub queued: usize,
+    /// Out of a hundred calls, how many look.
+    pub looks: usize,
 }
 
-/// The three loads: a few requests queued, half of the slots used, nearly all or all of them used.
-pub const LOADS: [Load; 3] = [
-    Load { name: "empty", queued: 2 },
-    Load { name: "half full", queued: 64 },
-    Load { name: "full", queued: 126 },
+/// The loads: a few requests queued, half of the slots used, nearly all or all of them used; and these with half of all calls looks.
+pub const LOADS: [Load; 4] = [
+    Load { name: "empty", queued: 2, looks: LOOKS },
+    Load { name: "half full", queued: 64, looks: LOOKS },
+    Load { name: "full", queued: 126, looks: LOOKS },
+    Load { name: "looks", queued: 126, looks: DISPLAY_LOOKS },
 ];
 
 /// The calls of a run at a load.
@@ -88,7 +92,7 @@ impl Traffic {
     /// The next call of sensible traffic.
     fn next(&mut self) -> Option<Call> {
         let random = &mut self.maker.random;
-        if random.chance(LOOKS) {
+        if random.chance(self.load.looks) {
             return Some(self.look());
         }
         if random.chance(QUERIES) {

@@ -1,4 +1,4 @@
-//! The yardstick: the same calls through the archive and through plain Rust with the same check, at three loads.
+//! The yardstick: the same calls through the archive and through plain Rust with the same check, at four loads.
 //!
 //! `yardstick [ROUNDS [CALLS [SEED [LIMIT]]]]`: in each round all calls are made on both sides, in slices of a hundred, the archive and plain Rust in
 //! turn. Of each slice the best time over all rounds counts, so that other work on the machine counts little. With a limit the program fails where a

@@ -41,6 +41,7 @@ impl Takes for Plain {
             kept: [0; KEPT],
             queries: [Query::default(); QUERIES],
             begun: 0,
+            sums: [0; CLASSES],
         };
         Plain(Held { site, committed: vec![0; RUN], working: vec![0; RUN] })
     }
@@ -125,7 +126,8 @@ pub fn confirm(
     let put_back =
         if head == at { 0 } else { put_waiting_head_back(site, committed, working, class) };
     move_forward(site, class, at);
-    Ok(Answer::Waiting { id, w: to_do(site, class, at), put_back })
+    site.sums[class] += u16::from(count - done);
+    Ok(Answer::Waiting { id, w: site.sums[class].into(), put_back })
 }
 
 /// Puts the head of a class back if it waits; its id or 0.
@@ -167,21 +169,22 @@ pub fn query(site: &mut Site, committed: &[u32], working: &mut [u32], mask: u16)
         queue.copy_within(to..len, to + 1);
         queue[to] = (SLOTS + index) as u8;
         site.lens[class] += 1;
+        site.sums[class] += 1;
     }
     Ok(Answer::Begun { place: index as u32 + 1 })
 }
 
 /// Where the first waiting request of a class stands; the queue's length where none waits.
 fn first_waiting(site: &Site, class: usize) -> usize {
-    let queue = queue_of(site, class);
-    let waits =
-        |&place: &u8| query_at(place).is_none() && site.slots[usize::from(place)].number == 0;
-    queue.iter().position(waits).unwrap_or(queue.len())
+    let confirmed =
+        |&place: &u8| query_at(place).is_some() || site.slots[usize::from(place)].number != 0;
+    queue_of(site, class).partition_point(confirmed)
 }
 
 /// The entry of a query at the head of a class is read and taken away.
 fn read_entry(site: &mut Site, committed: &[u32], class: usize, index: usize) -> Answer {
     take_head(site, class);
+    site.sums[class] -= 1;
     let query = &mut site.queries[index];
     query.classes &= !(1 << class);
     if query.classes == 0 {
@@ -209,6 +212,9 @@ pub fn work(site: &mut Site, committed: &mut [u32], working: &mut [u32], class: 
         head.mark = head.done + 1;
     }
     head.done += 1;
+    if head.number != 0 {
+        site.sums[class] -= 1;
+    }
     if head.done < head.count {
         return Ok(Answer::Stepped { id: head.id, done: head.done.into() });
     }
@@ -234,7 +240,11 @@ pub fn look(site: &Site, committed: &[u32], working: &[u32], id: u64) -> Answere
     if number == 0 {
         return Ok(Answer::Unconfirmed { backs });
     }
-    Ok(Answer::ToDo { w: to_do(site, class.into(), at), backs })
+    let class = usize::from(class);
+    let last = queue_of(site, class)[..first_waiting(site, class)].last();
+    let ends_part = last.is_some_and(|&place| usize::from(place) == at);
+    let w = if ends_part { site.sums[class].into() } else { to_do(site, class, at) };
+    Ok(Answer::ToDo { w, backs })
 }
 
 /// The slot of a queued id.

@@ -85,7 +85,7 @@ fn waiting(site: &Site) -> u32 {
 }
 
 /// A way to break each rule of a sound site.
-const SPOILS: [(&str, Spoil); 32] = [
+const SPOILS: [(&str, Spoil); 33] = [
     ("a free slot is all zero", |held| held.site.slots[127].ops[6].amount = 1),
     ("a free slot was never put back", |held| held.site.slots[127].backs = 1),
     ("a class is below 16", |held| head(&mut held.site).class = 16),
@@ -117,6 +117,7 @@ const SPOILS: [(&str, Spoil); 32] = [
     ("kept ids differ", |held| held.site.kept[1] = held.site.kept[2]),
     ("a waiting request's id is not kept", |held| held.site.kept[1] = waiting(&held.site)),
     ("unused places of kept ids are zero", |held| held.site.kept[0] = 7),
+    ("a sum is that of the confirmed part", |held| held.site.sums[15] ^= 1),
     ("working cells follow from committed ones", |held| held.working[1_023] ^= 1),
 ];
 
@@ -170,7 +171,7 @@ fn wrong_cells_are_refused_with_1() {
 fn spoil_by_chance(random: &mut Random, held: &mut Held) {
     let (byte, number) = (random.byte() % 9, random.number() % 9);
     let slot = &mut held.site.slots[random.below(SLOTS)];
-    match random.below(17) {
+    match random.below(18) {
         0 => slot.id = number,
         1 => slot.class = byte,
         2 => slot.count = byte,
@@ -186,7 +187,8 @@ fn spoil_by_chance(random: &mut Random, held: &mut Held) {
         12 => slot.backs = held.site.confirmations.wrapping_add(number).wrapping_sub(4).into(),
         13 => held.site.queries[random.below(QUERIES)].classes ^= 1 << random.below(CLASSES),
         14 => held.site.queries[random.below(QUERIES)].begun = number,
-        15 => held.site.confirmations = held.site.confirmations.wrapping_add(number),
+        15 => held.site.sums[random.below(CLASSES)] = byte.into(),
+        16 => held.site.confirmations = held.site.confirmations.wrapping_add(number),
         _ => held.working[random.below(1_024)] = number,
     }
 }

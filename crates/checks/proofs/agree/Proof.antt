@@ -64,9 +64,29 @@ in-order-requires c κs =
 returns-7 : tie.Need-returns-7
 returns-7 c = decides-false (λ h. c .before .in-order .ensures .no (not-true _ (c .if7 .taken)) (h .places))
 
+sums-right-requires : tie.Need-sums-right-requires
+sums-right-requires c κs =
+    let c₁ = c .before .before .before .before .before in
+    let c₂ = c₁ .before .before .before .before .before in
+    let c₃ = c₂ .before in
+    let c₄ = c₃ .before .before .before in
+    let lens-short· = c₃ .lens-short in
+    let if2· = c₂ .if2 in
+    let args· = c₄ .args in
+    let pre· = c₄ .pre in (
+      lens-short· .ensures .yes (not-false _ (if2· .left)),
+      range-of (flagOf (args· .low) (args· .high)) (nth (args· .classes .now)) (args· .table)
+          (args· .queue .now) (args· .lens .now) (pre· .0) (pre· .1) (lens-short· .ensures .yes (not-false _ (if2· .left))) (c₁ .each-once .ensures .yes
+          (not-false _ (c .before .before .before .before .if5 .left))),
+    )
+
 returns-8 : tie.Need-returns-8
-returns-8 c =
-    let c₁ = c .before in
+returns-8 c = decides-false (λ h. c .before .sums-right .ensures .no (not-true _ (c .if8 .taken)) (h .sums-right))
+
+returns-9 : tie.Need-returns-9
+returns-9 c =
+    let c₀ = c .before .before in
+    let c₁ = c₀ .before in
     let c₂ = c₁ .before in
     let c₃ = c₂ .before in
     let c₄ = c₃ .before in
@@ -93,6 +113,7 @@ returns-8 c =
           (args· .lens .now) (map-agrees· .ensures .yes (not-false _ (if4· .left))) (c₆ .each-once .ensures) .yes (not-false _ (c₅ .if5 .left));
       differ = c₄ .pairs-differ .ensures .yes (not-false _ (c₃ .if6 .left));
       places = c₂ .in-order .ensures .yes (not-false _ (c₁ .if7 .left));
+      sums-right = c₀ .sums-right .ensures .yes (not-false _ (c .before .if8 .left));
       free-zero = c₁₄ .free-zero .ensures .yes (not-false _ (c₁₃ .if1 .left));
       tally = omega (arith, e, numbered· .ensures);
     })
@@ -117,7 +138,9 @@ agree-spec =
     returns-6
     in-order-requires
     returns-7
+    sums-right-requires
+    returns-8
     (λ c κs. search needs)
     (λ c. search needs)
     (λ c. search needs)
-    returns-8)
+    returns-9)

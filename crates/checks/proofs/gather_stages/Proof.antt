@@ -12,7 +12,7 @@ use Rattle.checks.proofs.gather_stages.Statement.{statement}
 use Rattle.checks.proofs.gather_stages.Tie as tie
 
 abbrev Inv-loop : tie.InvT-loop
-Inv-loop slots table g₀ at₀ g at = (at ≤ slotCount) × StageTo slots table (g .lines) (g .dones) (g .marks) at at
+Inv-loop slots table g₀ at₀ g at = (at ≤ slotCount) × StageTo slots table (g .lines) (g .dones) (g .marks) (g .dues) at at
 
 abbrev μ-loop : tie.MeasureT-loop
 μ-loop slots table g₀ at₀ g at = slotCount - at
@@ -21,8 +21,8 @@ abbrev μ-loop : tie.MeasureT-loop
 abbrev Inv-loop2 : tie.InvT-loop2
 Inv-loop2 table g₀ at p₀ g p =
     (p ≤ queryCount)
-    × ((l : List Slot) → StageTo l table (g₀ .lines) (g₀ .dones) (g₀ .marks) 128 128
-    → StageTo l table (g .lines) (g .dones) (g .marks) 128 (128 + p))
+    × ((l : List Slot) → StageTo l table (g₀ .lines) (g₀ .dones) (g₀ .marks) (g₀ .dues) 128 128
+    → StageTo l table (g .lines) (g .dones) (g .marks) (g .dues) 128 (128 + p))
 
 abbrev μ-loop2 : tie.MeasureT-loop2
 μ-loop2 table g₀ at p₀ g p = queryCount - p
@@ -32,11 +32,12 @@ loop-holds c = (search needs, stage-none _ _)
 
 loop-again : tie.Need-loop-again Inv-loop μ-loop Inv-loop2 μ-loop2
 loop-again c =
-    let args· = c .before .before .args in
-    let loop· = c .before .loop in (
+    let c₁ = c .before .before in
+    let args· = c₁ .before .args in
+    let loop· = c₁ .loop in (
       search needs,
-      stage-more (args· .t1) (args· .t2) (loop· .g .lines) (loop· .g .dones) (loop· .g .marks) (loop· .at)
-          (loop· .at) (loop· .inv .1) (omega arith) refl,
+      stage-more (args· .t1) (args· .t2) (loop· .g .lines) (loop· .g .dones) (loop· .g .marks) (loop· .g .dues) (loop· .at)
+          (loop· .at) (loop· .inv .1) (omega arith) refl _ (c .due .ensures),
     )
 
 loop2-holds : tie.Need-loop2-holds Inv-loop μ-loop Inv-loop2 μ-loop2
@@ -47,7 +48,7 @@ loop2-again c =
     let c₁ = c .before .before .before .before in
     let loop2· = c .before .loop2 in (
       search needs,
-      (λ l h. line-more l (c₁ .args .t2) (loop2· .g .lines) (loop2· .g .dones) (loop2· .g .marks) 128
+      (λ l h. line-more l (c₁ .args .t2) (loop2· .g .lines) (loop2· .g .dones) (loop2· .g .marks) (loop2· .g .dues) 128
           (128 + loop2· .p) (loop2· .inv .1 l h) (loop2· .p) (omega arith) refl),
     )
 
@@ -61,8 +62,8 @@ returns c =
     let n : length (args· .t1) ≡ slotCount = search needs in
     let m : length (args· .t2) ≡ queryCount = search needs in
     let e : loop· .at ≡ 128 = omega arith in
-    stage-all (args· .t1) (args· .t2) (loop2· .g .lines) (loop2· .g .dones) (loop2· .g .marks) 128 (128 + loop2· .p)
-    (loop2· .inv .1 (args· .t1) (rw e at (loop· .inv .1))) n m (omega arith) (omega arith)
+    stage-all (args· .t1) (args· .t2) (loop2· .g .lines) (loop2· .g .dones) (loop2· .g .marks) (loop2· .g .dues) 128
+    (128 + loop2· .p) (loop2· .inv .1 (args· .t1) (rw e at (loop· .inv .1))) n m (omega arith) (omega arith)
 
 pub gather-stages-spec : {M : Type 1} → statement M
 gather-stages-spec =
@@ -82,6 +83,10 @@ gather-stages-spec =
     (λ c. search needs)
     (λ c. search needs)
     (λ c. search needs)
+    (λ c. search needs)
+    (λ c. search needs)
+    (λ c. search needs)
+    (λ c κs. search needs)
     (λ c. search needs)
     (λ c. search needs)
     (λ c. search needs)

@@ -62,7 +62,7 @@ pub fn entries_stand_once(subject: &Subject) -> bool {
     each_entered(subject, |_, entries| entries <= 1)
 }
 
-/// An entry stands a second time beside itself.
+/// An entry stands a second time beside itself, and counts twice in the sum of its class.
 pub fn entry_twice(random: &mut Random, subject: &mut Subject) {
     let site = &mut subject.site;
     let room =
@@ -73,6 +73,7 @@ pub fn entry_twice(random: &mut Random, subject: &mut Subject) {
         let places = &mut site.queue[class * CLASS_PLACES..][..=len];
         places.copy_within(at..len, at + 1);
         site.lens[class] += 1;
+        site.sums[class] += 1;
     }
 }
 
@@ -181,5 +182,6 @@ fn entry_of_free_query(random: &mut Random, subject: &mut Subject) {
     if let (Some(index), Some(class)) = (free, empty) {
         site.queue[class * CLASS_PLACES] = entry_of(index);
         site.lens[class] = 1;
+        site.sums[class] = 1;
     }
 }

@@ -19,6 +19,7 @@ pub fn sound(site: &Site, committed: &[u32], working: &[u32]) -> bool {
         && each_once(site)
         && pairs_differ(&site.slots)
         && in_order(site)
+        && sums_right(site)
         && counts_agree(site)
         && cells_ok(site, committed, working)
         && kept_ok(site)
@@ -138,6 +139,17 @@ fn behind(line: Option<u32>, slot: &Slot, is_head: bool) -> Option<Option<u32>> 
         return Some(None);
     }
     line.filter(|&line| line < slot.number).map(|_| Some(slot.number))
+}
+
+/// Whether with each class stand the operations and query entries still to do by its confirmed part.
+fn sums_right(site: &Site) -> bool {
+    let to_do = |&place: &u8| match site.slots.get(usize::from(place)) {
+        None => 1,
+        Some(slot) if slot.number == 0 => 0,
+        Some(slot) => u16::from(slot.count.saturating_sub(slot.done)),
+    };
+    (0..CLASSES)
+        .all(|class| queue_of(site, class).iter().map(to_do).sum::<u16>() == site.sums[class])
 }
 
 /// Whether the confirmations are the commits and the confirmed requests queued.

@@ -47,7 +47,7 @@ take-head-requires c κs =
     (pre· .some, pre· .laid .not-longer-than-136 (c₁ .args .c) (pre· .class), pre· .class)
 
 returns : tie.Need-returns
-returns c = let take-head· = c .take-head in
+returns c =
     let c₁ = c .before .before .before in
     let c₂ = c₁ .before in
     let c₃ = c₂ .before .before .before .before in
@@ -55,6 +55,7 @@ returns c = let take-head· = c .take-head in
     let args· = c₄ .args in
     let pre· = c₄ .pre in
     let free-slot· = c₂ .free-slot in
+    let take-head· = c .take-head in
     let with-free· = c₁ .with-free in
     let copy-class· = c₃ .copy-class in
     let s = (store (args· .t1)) in
@@ -78,6 +79,7 @@ returns c = let take-head· = c .take-head in
           (copied base wrk (copy-class· .last .0) k (pre· .class) (pre· .cells .0) (pre· .cells .1) (copy-class· .ensures))
           (uncopied base wrk (copy-class· .last .0) k (pre· .class) (pre· .cells .0) (pre· .cells .1) (copy-class· .ensures)) e refl refl;
       queries = refl;
+      sums = refl;
     }
 
 pub commit-spec : {M : Type 1} → statement M

@@ -17,6 +17,7 @@ returns c = let numbered· = c .before .before .numbered in record {
   kept = ap (λ (z : Store). z .kept) (numbered· .ensures);
   queries = ap (λ (z : Store). z .queries) (numbered· .ensures);
   begun = ap (λ (z : Store). z .begun) (numbered· .ensures);
+  sums = ap (λ (z : Store). z .sums) (numbered· .ensures);
 }
 
 pub forward-spec : {M : Type 1} → statement M
