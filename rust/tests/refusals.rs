@@ -168,6 +168,37 @@ fn a_request_says_how_often_it_was_put_back() {
     assert_eq!(hosted.work(3), Ok(committed));
 }
 
+/// With so many requests offered after it and confirmed before it, or queries of its class that begin
+/// while it waits, a request is put back exactly so often, and told so by its slot, look and commit.
+#[test]
+fn a_request_is_put_back_as_often_as_it_is_overtaken_and_meets_queries() {
+    for misfortunes in ["o", "q", "oo", "qq", "oq", "qo", "ooo", "qqq", "oqo", "qoq"] {
+        let mut hosted = Hosted::fresh();
+        hosted.offer(7, 3).expect("a slot is free");
+        let mut number = 0;
+        for (times, misfortune) in (1..).zip(misfortunes.chars()) {
+            assert_eq!(hosted.query(0), Err(Refusal::EmptyMask));
+            assert_eq!(hosted.confirm(7, 9), Err(Refusal::WrongNumber));
+            if misfortune == 'o' {
+                number += 1;
+                hosted.offer(7 + times, 3).expect("a slot is free");
+                let overtakes = Answer::Waiting { id: 7 + u32::from(times), w: 1, put_back: 7 };
+                assert_eq!(hosted.confirm(7 + u64::from(times), number), Ok(overtakes));
+            } else {
+                assert_eq!(hosted.query(1 << 3), Ok(Answer::Begun { place: 1 }));
+            }
+            hosted.work(3).expect("the one before it");
+            assert_eq!(hosted.look(7), Ok(Answer::Unconfirmed { backs: times.into() }));
+            assert_eq!(hosted.site.slots[0].backs, times.into());
+        }
+        hosted.confirm(7, number + 1).expect("it waits");
+        hosted.query(1 << 3).expect("a place is free");
+        let (backs, number) = (misfortunes.len() as u64, number as u32 + 1);
+        let committed = Answer::Committed { id: 7, number, mark: 0, slot: 0, backs };
+        assert_eq!(hosted.work(3), Ok(committed), "{misfortunes}");
+    }
+}
+
 #[test]
 fn times_put_back_may_reach_the_confirmations_and_no_more() {
     let mut hosted = Hosted::fresh();

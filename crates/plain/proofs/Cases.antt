@@ -11,6 +11,8 @@ use Rattle.plain.specs.Steps.{Answer, refused, queued, stepped, executed
 use Rattle.plain.specs.Steps.{offerStep, workStep, confirmStep, queryStep}
 use Rattle.plain.specs.Site.{Call, work, confirm, read, look, query, fresh, zeros, call, act, refusal, classOf, isFree, freeSlot, numberQueued, isKept}
 use Rattle.plain.specs.Site.{sum, standing, bits, named, firstNamed, isOpen, freePlace}
+use Rattle.plain.specs.History.{after, backBy, putBacks}
+use Rattle.plain.specs.Told.{news, overtakers, queriesMet}
 use Rattle.plain.proofs.Written.{fourBytes, opBytes, opsBytes, recordOf, offerOf, answers}
 
 -- request i of class 0; and its whole run as number n: offered, confirmed, worked off
@@ -128,3 +130,15 @@ table =
 pub cases : map (λ (k : Case). last (length (k .end)) (answers fresh (k .calls))) table ≡ map (λ (k : Case). k .end) table
 unfolding table works run req each seven last top fourBytes opBytes opsBytes recordOf offerOf answers fresh call act refusal classOf isFree freeSlot numberQueued isKept sum standing bits named firstNamed isOpen freePlace offerStep workStep confirmStep queryStep requestIn isRecord request valid opOk carry
 cases = refl
+
+-- how unlucky: requests 1, 2, 3 and 5 of class 0 wait, and 4 of class 1. 2 is confirmed and worked off, a query of class 0 is read, 3 is confirmed: each
+-- puts 1 back, and counts. 4, of another class, does not count, nor do 5 and a query once 1 is confirmed, nor 2, which is older, for 3. The latest call
+-- stands first
+pub unlucky-run : List Call
+unlucky-run =
+    query 1 ∷ confirm 5 5 ∷ confirm 1 4 ∷ confirm 3 3 ∷ work 0 ∷ query 1 ∷ confirm 4 2 ∷ work 0 ∷ confirm 2 1 ∷ offerOf 4 1 (put 0 4 ∷ [])
+    ∷ req 5 (put 0 5 ∷ []) ∷ req 3 (put 0 3 ∷ []) ∷ req 2 (put 0 2 ∷ []) ∷ req 1 (put 0 1 ∷ []) ∷ []
+
+pub unlucky-case : (putBacks 1 unlucky-run ≡ 3) × (overtakers 1 (news unlucky-run) ≡ 2) × (queriesMet 1 (news unlucky-run) ≡ 1) × (overtakers 3 (news unlucky-run) ≡ 0)
+unfolding unlucky-run req top fourBytes opBytes opsBytes recordOf offerOf fresh call act refusal classOf isFree freeSlot numberQueued isKept sum standing bits named firstNamed isOpen freePlace offerStep workStep confirmStep queryStep requestIn isRecord request valid opOk carry after backBy putBacks news overtakers queriesMet
+unlucky-case = (refl, refl, refl, refl)

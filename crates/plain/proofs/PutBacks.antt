@@ -42,7 +42,7 @@ pub none-zero : (c : ℕ) (q : List Item) → All (Belongs c) q → All (OfReque
 none-zero c q b =
     each-request (Belongs c) (λ e. eqb (idOf e) 0 ≡ false) (λ e h. ne-eqb (idOf e) 0 (is-valid (e .request) (h .valid) .id)) q b
 
-head-alone : (x : Entry) (rest : List Item) → count (idIs (idOf x)) (booking x ∷ rest) ≤ 1 → All (OfRequest (λ e. eqb (idOf e) (idOf x) ≡ false)) rest
+pub head-alone : (x : Entry) (rest : List Item) → count (idIs (idOf x)) (booking x ∷ rest) ≤ 1 → All (OfRequest (λ e. eqb (idOf e) (idOf x) ≡ false)) rest
 head-alone x rest u =
     each-request (λ e. idIs (idOf x) e ≡ false) (λ e. eqb (idOf e) (idOf x) ≡ false) (λ e h. h) rest
     (none-passes (idIs (idOf x)) rest (by-test (any (idIs (idOf x)) rest)
@@ -51,7 +51,7 @@ head-alone x rest u =
 
 -- ANSWERS. Work's count nothing, and a confirmation's none that is not queued in its class
 module _ (s : Site) (mask : ℕ) where
-  work-silent : (k : Class) (j m : ℕ) → countBack j s mask (workStep k .answer) m ≡ m
+  pub work-silent : (k : Class) (j m : ℕ) → countBack j s mask (workStep k .answer) m ≡ m
   unfolding workStep
   work-silent k j m = go (k .queue)
     where
@@ -139,8 +139,25 @@ module _ (f : ℕ → ℕ) where
       go [] z u h = (tt, tt)
       go (x ∷ rest) z u h = all-before (OfRequest (Back (backId x))) (reading p n) (backed x ∷ rest) tt (head-back x rest z u h)
 
+-- in a class of a sound site an id stands once at most
+pub once : (s : Site) → SoundSite s → (c : ℕ) → c < 16 → (j : ℕ) → count (idIs j) (s .class c .queue) ≤ 1
+unfolding standing
+once s w c l j = omega (arith, w .ids j, sum-term (λ c. count (idIs j) (s .class c .queue)) 16 c l)
+
+-- nothing of the site has the id that an accepted offer brings
+pub new-id : (s : Site) (b : List ℕ) → accepts s (offer b) ≡ true → (c : ℕ) → c < 16
+    → All (OfRequest (λ e. eqb (idOf e) (requestIn b .id) ≡ false)) (s .class c .queue)
+new-id s b a c l =
+    each-request (λ e. idIs i e ≡ false) (λ e. eqb (idOf e) i ≡ false) (λ e h. h) (s .class c .queue)
+    (none-passes (idIs i) (s .class c .queue) (by-test (any (idIs i) (s .class c .queue))
+    (λ t. absurd (omega (arith, standing-some (idIs i) s c l t, not-queued s i (offer-accepted s b a .unknown))))
+    (λ g. g)))
+  where
+    i : ℕ
+    i = requestIn b .id
+
 -- ON A SITE: a call's answer counts what the call did
-abbrev Counted : (ℕ → ℕ) → Site → Type 0
+abbrev pub Counted : (ℕ → ℕ) → Site → Type 0
 Counted f s = (c : ℕ) → c < 16 → All (OfRequest (λ e. e .backs ≡ f (idOf e))) (s .class c .queue)
 
 module _ (f : ℕ → ℕ) (s : Site) (w : SoundSite s) (h : Counted f s) where
@@ -160,23 +177,8 @@ module _ (f : ℕ → ℕ) (s : Site) (w : SoundSite s) (h : Counted f s) where
       (λ x t. by-test (has (idOf x) (s .class c .queue)) (λ y. absurd (n (one-class (idIs (idOf x)) s (w .ids (idOf x)) e c m l t y))) (λ g. g))
       (s .class e .queue) (there (s .class e .queue))
 
-  once : (c : ℕ) → c < 16 → (j : ℕ) → count (idIs j) (s .class c .queue) ≤ 1
-  unfolding standing
-  once c l j = omega (arith, w .ids j, sum-term (λ c. count (idIs j) (s .class c .queue)) 16 c l)
-
   zero : (e : ℕ) → e < 16 → All (OfRequest (λ x. eqb (idOf x) 0 ≡ false)) (s .class e .queue)
   zero e m = none-zero e (s .class e .queue) (w .each e m .belong)
-
-  -- nothing of the site has the id that an accepted offer brings
-  new-id : (b : List ℕ) → accepts s (offer b) ≡ true → (c : ℕ) → c < 16 → All (OfRequest (λ e. eqb (idOf e) (requestIn b .id) ≡ false)) (s .class c .queue)
-  new-id b a c l =
-      each-request (λ e. idIs i e ≡ false) (λ e. eqb (idOf e) i ≡ false) (λ e h. h) (s .class c .queue)
-      (none-passes (idIs i) (s .class c .queue) (by-test (any (idIs i) (s .class c .queue))
-      (λ t. absurd (omega (arith, standing-some (idIs i) s c l t, not-queued s i (offer-accepted s b a .unknown))))
-      (λ g. g)))
-    where
-      i : ℕ
-      i = requestIn b .id
 
   offer-counted : (b : List ℕ) → accepts s (offer b) ≡ true → Counted (after-answer (offer b) (act s (offer b) .answer)) (act s (offer b) .site)
   unfolding act offerStep
@@ -200,7 +202,7 @@ module _ (f : ℕ → ℕ) (s : Site) (w : SoundSite s) (h : Counted f s) where
       old : (e : ℕ) → e < 16 → All (OfRequest (λ x. x .backs ≡ cond (eqb (idOf x) i) 0 (f (idOf x)))) (s .class e .queue)
       old e m =
           all-requests (λ x. eqb (idOf x) i ≡ false) (Before f) (λ x. x .backs ≡ cond (eqb (idOf x) i) 0 (f (idOf x))) (λ x g p. rw g p)
-          (s .class e .queue) (new-id b a e m) (h e m)
+          (s .class e .queue) (new-id s b a e m) (h e m)
 
   work-counted : (c : ℕ) → accepts s (work c) ≡ true → Counted (after-answer (work c) (act s (work c) .answer)) (act s (work c) .site)
   unfolding act
@@ -221,7 +223,7 @@ module _ (f : ℕ → ℕ) (s : Site) (w : SoundSite s) (h : Counted f s) where
   confirm-counted : (i n : ℕ) → accepts s (confirm i n) ≡ true → Counted (after-answer (confirm i n) (act s (confirm i n) .answer)) (act s (confirm i n) .site)
   unfolding act
   confirm-counted i n a =
-      step-counted (confirm i n) c (some i) (confirmStep i n k) l (confirm-now f s 0 i n k (zero c l) (once c l) (h c l))
+      step-counted (confirm i n) c (some i) (confirmStep i n k) l (confirm-now f s 0 i n k (zero c l) (once s w c l) (h c l))
       (λ e m ne. unchanged f s 0 (confirmStep i n k .answer) (s .class e .queue) (silent e m ne) (h e m))
     where
       c : ℕ
@@ -253,7 +255,7 @@ module _ (f : ℕ → ℕ) (s : Site) (w : SoundSite s) (h : Counted f s) where
       (λ t. rw t (all-requests (λ x. classOf s (idOf x) ≡ c) (Back f (headBack q)) (λ x. x .backs ≡ countBack (idOf x) s m (begun (freePlace s)) (f (idOf x)))
       (λ x is b. rw (is, t) b) (queryStep (freePlace s) (s .confirmations) (s .class c) .queue)
       (query-all (OfRequest (λ x. classOf s (idOf x) ≡ c)) (λ x p. p) (freePlace s) (s .confirmations) tt (s .class c) (mine c l))
-      (query-back f (freePlace s) (s .confirmations) (s .class c) (zero c l) (once c l) (h c l))))
+      (query-back f (freePlace s) (s .confirmations) (s .class c) (zero c l) (once s w c l) (h c l))))
       (λ g. rw g (all-requests (λ x. classOf s (idOf x) ≡ c) (Before f) (λ x. x .backs ≡ countBack (idOf x) s m (begun (freePlace s)) (f (idOf x)))
       (λ x is b. rw (is, g) b) q (mine c l) (h c l)))
     where
@@ -302,7 +304,7 @@ module _ (f : ℕ → ℕ) (i n d j b : ℕ) where
           (λ e. let z : _≡_ {A = ℕ} 0 1 = cc (rw (y, e) at a) in absurd (omega arith)))
           (λ y. let z : _≡_ {A = ℕ} 0 1 = cc (rw y at a) in absurd (omega arith))
 
-  call-ends : (s : Site) → Counted f s → (k : Call) → call s k .answer ≡ committed i n d j b → b ≡ f i
+  pub call-ends : (s : Site) → Counted f s → (k : Call) → call s k .answer ≡ committed i n d j b → b ≡ f i
   unfolding call act offerStep
   call-ends s h k e =
       by-test (accepts s k)
@@ -321,7 +323,7 @@ module _ (f : ℕ → ℕ) (i n d j b : ℕ) where
       go (query m) a e = other _ refl e
 
 -- LOOK answers the count with which the request is queued
-look-shows : (f : ℕ → ℕ) (s : Site) → Counted f s → (i b : ℕ) → Shows (call s (look i) .answer) b → b ≡ f i
+pub look-shows : (f : ℕ → ℕ) (s : Site) → Counted f s → (i b : ℕ) → Shows (call s (look i) .answer) b → b ≡ f i
 unfolding call act
 look-shows f s h i b sh = by-test (accepts s (look i)) (λ a. accepted a (rw a at sh)) (λ g. refuses (rw g at sh))
   where

@@ -2,7 +2,7 @@
 use Prim.Native.Nat.{ℕ}
 use native.Mathlib.Omega.{arith}
 use mathlib.Core.Path.{_≡_, refl, sym, _∙_}
-use mathlib.Core.Bool.{Bool, true, false, _||_}
+use mathlib.Core.Bool.{Bool, true, false, _&&_, _||_}
 use mathlib.Core.List.{List, [], _∷_}
 use Rattle.plain.specs.Ops.{every}
 use Rattle.plain.specs.Sound.{All}
@@ -23,6 +23,10 @@ or-left false b e = refl
 pub or-right : (a b : Bool) → (a || b) ≡ false → b ≡ false
 or-right true b e = let z : true ≡ b = cc in cc
 or-right false b e = e
+
+pub and-both : (a b : Bool) → (a && b) ≡ true → (a ≡ true) × (b ≡ true)
+and-both true b e = (refl, e)
+and-both false b e = no _ e refl
 
 -- all of a list of tests hold
 pub all-true : (bs : List Bool) → every bs ≡ true → All (λ b. b ≡ true) bs

@@ -15,6 +15,7 @@ use Rattle.plain.specs.Site.{classOf, isFree, isQueued, isKept, isOpen, 
 use Rattle.plain.specs.Sizes.{classCount, slotCount, keptCount, queryCount}
 use Rattle.plain.specs.Sound.{All, OfRequest, SoundSite}
 use Rattle.plain.specs.History.{after, afterFrom, worksFrom, confirmations, putBacks, confirmedIn, committedIn}
+use Rattle.plain.specs.Told.{mostBacks}
 
 -- DEMAND 2, of class c after a history from fresh: its committed cells are those got by running its committed requests one after another, and
 -- these are the first confirmed ones of the class in definitive order
@@ -90,6 +91,13 @@ pub record CountedBack (h : List Call) : Type 0 where
   pub of-queued : (c : ℕ) → c < classCount → All (OfRequest (λ e. e .backs ≡ putBacks (idOf e) h)) (after h .class c .queue)
   pub of-looked : (i backs : ℕ) → Shows (call (after h) (look i) .answer) backs → backs ≡ putBacks i h
   pub of-committed : (k : Call) (i n mark slot backs : ℕ) → call (after h) k .answer ≡ committed i n mark slot backs → backs ≡ putBacks i h
+
+-- HOW UNLUCKY. After a history from fresh a request was put back at most as often as there are requests of its class offered after it and confirmed
+-- before it, plus queries that named its class and began while it waited: so the count of each queued request, and the one that look and a commit answer
+pub record BackAtMost (h : List Call) : Type 0 where
+  pub of-queued : (c : ℕ) → c < classCount → All (OfRequest (λ e. e .backs ≤ mostBacks (idOf e) h)) (after h .class c .queue)
+  pub of-looked : (i backs : ℕ) → Shows (call (after h) (look i) .answer) backs → backs ≤ mostBacks i h
+  pub of-committed : (k : Call) (i n mark slot backs : ℕ) → call (after h) k .answer ≡ committed i n mark slot backs → backs ≤ mostBacks i h
 
 -- a call is for class d: it is its class, or it names it
 abbrev pub For : Site → Call → ℕ → Type 0

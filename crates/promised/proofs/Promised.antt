@@ -27,6 +27,7 @@ by-promises {k = k} e = record {
   goes-on = λ z h r. M.goes-on e r;
   from-fresh = λ h f. M.goes-on-from-fresh e f;
   demand-2 = λ h f c l. promises .demand-2 (M.goes-on-from-fresh e f) c l;
+  back-at-most = λ h f. (promises .back-at-most f, promises .back-at-most (M.goes-on-from-fresh e f));
   beside = λ z w h p n r. M.goes-on-beside e p n r;
 }
 

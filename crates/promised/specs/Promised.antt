@@ -10,7 +10,7 @@ use Rattle.plain.specs.Site.{Call, offer, confirm, work, read, look, query}
 use Rattle.store.specs.Store.{Store, runSize}
 use Rattle.store.specs.Calls.{State, RightCells, Started}
 use Rattle.promises.specs.Runs.{Happens, Ready, Accepted, onCells, Run, FromFresh}
-use Rattle.promises.specs.Demands.{Demand1, Demand2, Demand3, KeepsSlot, Queried}
+use Rattle.promises.specs.Demands.{Demand1, Demand2, Demand3, KeepsSlot, BackAtMost, Queried}
 
 -- what is promised of one kind of call alone: THE SLOT PROMISE of an accepted offer, DEMAND 3 of an accepted confirmation, THE QUERY'S PROMISE of an
 -- accepted query on a site that came from fresh
@@ -32,6 +32,8 @@ pub record Promised (x : State) (k : Call) (y : State) (a : Answer) : Type 0 whe
   pub goes-on : (z : State) (h : List Call) → Run z h x → Run z (k ∷ h) y
   pub from-fresh : (h : List Call) → FromFresh h x → FromFresh (k ∷ h) y
   pub demand-2 : (h : List Call) → FromFresh h x → (c : ℕ) → c < classCount → Demand2 (k ∷ h) y c
+  -- HOW UNLUCKY: and then a request was put back at most as often as it may be, on x, also where this call answers it, and on y
+  pub back-at-most : (h : List Call) → FromFresh h x → BackAtMost h x × BackAtMost (k ∷ h) y
   -- with wrong cells a run that led to the site goes on with the cells that it had
   pub beside : (z w : State) (h : List Call) → w .site ≡ x .site → (RightCells x → ⊥) → Run z h w → Run z h (onCells y (w .committed) (w .working))
 

@@ -26,6 +26,7 @@ promises = record {
   put-backs = B.put-backs;
   put-backs-shown = B.put-backs-shown;
   put-backs-committed = B.put-backs-committed;
+  back-at-most = B.back-at-most;
   queried = Q.queried;
   one-point = Q.one-point;
   same-point = Q.same-point;

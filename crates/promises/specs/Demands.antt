@@ -1,17 +1,20 @@
--- The mission's three demands and the slot promise, of calls that were made. Assumes nothing.
+-- The mission's three demands, the slot promise, the query's promise, and how unlucky a request can be, of calls that were made. Assumes nothing.
 use Prim.Native.Nat.{ℕ, suc, _-_, _<_, _≤_}
 use mathlib.Core.Path.{_≡_}
 use mathlib.Core.Logic.{_↔_, _⊎_}
 use mathlib.Core.Bool.{true}
 use mathlib.Core.List.{List}
 use lib.ListN.{length, take}
+use Rattle.plain.specs.Sizes.{slotCount}
 use Rattle.plain.specs.Ops.{Request, runAll}
 use Rattle.plain.specs.Record.{requestIn}
-use Rattle.plain.specs.Steps.{Answer, refused, queued, toDo, begun, entry}
+use Rattle.plain.specs.Steps.{Answer, refused, queued, committed, toDo, begun, entry}
 use Rattle.plain.specs.Site.{Call, work, look, named, zeros, classOf, entryAt, backsAt, tests, row, refusal}
 use Rattle.plain.specs.Sound.{All}
 use Rattle.plain.specs.History.{confirmations, confirmedIn, committedIn}
-use Rattle.plain.specs.Demands.{Commits, Counted, wOf, Keeps, Frees, Gives, LowestFree, ahead, cellsAfter}
+use Rattle.plain.specs.Told.{mostBacks}
+use Rattle.plain.specs.Demands.{Commits, Counted, Shows, wOf, Keeps, Frees, Gives, LowestFree, ahead, cellsAfter}
+use Rattle.slots.specs.Meaning.{isUsed, slotAt}
 use Rattle.store.specs.Meaning.{cellsOf}
 use Rattle.store.specs.Calls.{State, RightCells, SoundState, plainOf}
 use Rattle.promises.specs.Runs.{Happens, Ready, Accepted, Run, start, more, wrong, worksIn}
@@ -43,6 +46,15 @@ pub record Demand2 (h : List Call) (y : State) (c : ℕ) : Type 0 where
 -- KEPT OUT, of an offer that answered a: it was refused, for its record, because its id is queued, or because its id is kept
 abbrev pub KeptOut : Answer → Type 0
 KeptOut a = (a ≡ refused 3) ⊎ (a ≡ refused 4) ⊎ (a ≡ refused 14)
+
+-- HOW UNLUCKY, of y after the calls h from fresh: a request was put back at most as often as there are requests of its class offered after it and
+-- confirmed before it, plus queries that named its class and began while it waited. So the count in a used slot, the one that look answers, and the
+-- one that a commit tells
+pub record BackAtMost (h : List Call) (y : State) : Type 0 where
+  pub in-slot : (j : ℕ) → j < slotCount → isUsed (slotAt (y .site .slots) j) ≡ true
+      → slotAt (y .site .slots) j .backs ≤ mostBacks (slotAt (y .site .slots) j .id) h
+  pub looked : (z : State) (a : Answer) (i b : ℕ) → Happens y (look i) z a → Shows a b → b ≤ mostBacks i h
+  pub told : (z : State) (k : Call) (i n mark slot b : ℕ) → Happens y k z (committed i n mark slot b) → b ≤ mostBacks i h
 
 -- What holds after x accepted work calls for class c, of the W that the confirmation of i under n answered, while x is less than W; `backs` is how
 -- often the request had been put back when it was confirmed

@@ -18,7 +18,7 @@ use Rattle.store.specs.Store.{Store, runSize}
 use Rattle.store.specs.Meaning.{cellsOf}
 use Rattle.store.specs.Calls.{State, RightCells, SoundState, Started, plainOf}
 use Rattle.promises.specs.Runs.{Happens, asks, Ready, Accepted, Run, FromFresh}
-use Rattle.promises.specs.Demands.{Demand1, Demand2, Demand3, KeepsSlot, KeptOut, Queried}
+use Rattle.promises.specs.Demands.{Demand1, Demand2, Demand3, KeepsSlot, KeptOut, BackAtMost, Queried}
 
 -- two sites agree in class c: in its queue, its slots' numbers and contents, and its cells
 abbrev pub Agree : State → State → ℕ → Type 0
@@ -58,6 +58,9 @@ pub record Promises : Type 0 where
   pub put-backs-shown : {h : List Call} {y z : State} {a : Answer} {i b : ℕ} → FromFresh h y → Happens y (look i) z a → Shows a b → b ≡ putBacks i h
   pub put-backs-committed : {h : List Call} {y z : State} {k : Call} {i n m j b : ℕ} → FromFresh h y → Happens y k z (committed i n m j b)
       → b ≡ putBacks i h
+  -- HOW UNLUCKY. That count is at most the requests of its class that were offered after it and confirmed before it, plus the queries that named its
+  -- class and began while it waited
+  pub back-at-most : {h : List Call} {y : State} → FromFresh h y → BackAtMost h y
   -- THE QUERY'S PROMISE, of every accepted query after a run from fresh. All its entries show the class's cells after the same numbers: those up to the
   -- count of confirmations at its beginning, also where more were given since; so two sites that confirmed the same requests under these numbers show
   -- the same cells. Only a work call reads an entry. And a request confirmed before a query keeps its W

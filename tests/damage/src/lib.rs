@@ -9,4 +9,5 @@ mod rules;
 pub mod run;
 mod subject;
 mod tally;
+mod unlucky;
 mod view;

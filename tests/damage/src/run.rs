@@ -8,6 +8,8 @@ use crate::plain::from_plain;
 use crate::rules::{RULES, broken};
 use crate::subject::{Subject, spots};
 use crate::tally::Tally;
+use crate::unlucky;
+use model::books::Books;
 use model::event::{Event, Run as Traffic};
 use model::random::Random;
 use model::stream::{KINDS, Kind, Stream};
@@ -32,6 +34,8 @@ pub struct Run {
     random: Random,
     /// A site of earlier traffic, to mix with.
     earlier: Subject,
+    /// The books of the traffic's answers.
+    books: Books,
     /// Where the run is, in words.
     place: String,
 }
@@ -48,6 +52,7 @@ impl Run {
             stride,
             random: Random::new(seed),
             earlier: Subject::empty(),
+            books: Books::default(),
             place: String::new(),
         }
     }
@@ -63,6 +68,7 @@ impl Run {
     /// One stream of traffic, with damage on the way.
     fn stream(&mut self, kind: Kind, name: &str, seed: u64) -> Result<(), Difference> {
         let mut traffic = Traffic::fresh();
+        self.books = Books::default();
         let mut subject = Call::Fresh.made(&Subject::empty()).after;
         for (place, bytes) in (1..).zip(Stream::new(kind, seed, self.events)) {
             self.place = format!("stream {name}, seed {seed}, event {place}");
@@ -98,9 +104,23 @@ impl Run {
         traffic: &Traffic,
     ) -> Result<Subject, Difference> {
         let state = state_of(before).0;
-        let after = self.hold(call, before, state, "none")?.after;
-        self.same_as_traffic(&after, traffic)?;
-        Ok(after)
+        let made = self.hold(call, before, state, "none")?;
+        self.within_the_books(call, &made)?;
+        self.same_as_traffic(&made.after, traffic)?;
+        Ok(made.after)
+    }
+
+    /// No count of times put back may be above what the answers so far allow.
+    fn within_the_books(&mut self, call: &Call, made: &Outcome) -> Result<(), Difference> {
+        unlucky::enter(&mut self.books, call, made);
+        for (id, backs) in unlucky::shown(call, made) {
+            let met = self.books.met(id);
+            if backs > met.most() {
+                return Err(format!("{}: {id} put back {backs} times, met {met:?}", self.place));
+            }
+            self.tally.unluckiest += u64::from(backs > 0 && backs == met.most());
+        }
+        Ok(())
     }
 
     /// The subject must be what the model has after all events so far.

@@ -53,6 +53,8 @@ pub struct Tally {
     answers: [u64; ANSWERS.len()],
     /// How often each refusal was given.
     refusals: [u64; REFUSALS],
+    /// How many counts of times put back, above 0, were as high as the answers before them allow.
+    pub unluckiest: u64,
     /// How many single numbers were damaged, one after another.
     pub numbers: usize,
     /// How many subjects were tried, each damaged in some way or left as it was.
@@ -73,6 +75,7 @@ impl Default for Tally {
             states: [0; 3],
             answers: [0; ANSWERS.len()],
             refusals: [0; REFUSALS],
+            unluckiest: 0,
             numbers: 0,
             tried: 0,
             sound: 0,
@@ -113,10 +116,13 @@ impl Tally {
         (1..).zip(self.refusals).filter(|(number, _)| Refusal::numbered(*number).is_some())
     }
 
-    /// The answers that never occurred; a fresh start is the beginning of every stream.
+    /// The answers that never occurred, a fresh start being the beginning of every stream; and the
+    /// highest count of times put back.
     pub fn missing_answers(&self) -> Vec<String> {
         let answers = ANSWERS.iter().zip(self.answers).filter(|(_, count)| *count == 0);
-        answers.map(|(word, _)| word.to_string()).filter(|word| word != "started").collect()
+        let words = answers.map(|(word, _)| word.to_string()).filter(|word| word != "started");
+        let highest = (self.unluckiest == 0).then(|| "put back as often as can be".to_string());
+        words.chain(highest).collect()
     }
 
     /// What should have occurred and never did.
@@ -134,6 +140,7 @@ impl Tally {
         writeln!(out, "{} calls, each as the model has it", self.made())?;
         line(out, "calls", NAMES.iter().zip(self.calls))?;
         line(out, "answers", ANSWERS.iter().zip(self.answers))?;
+        writeln!(out, "{} times a count of put-backs as high as it can be", self.unluckiest)?;
         line(out, "refused", self.refusals())
     }
 

@@ -3,6 +3,7 @@
 //! It shares no code with the engine, so that the two can be held against each other.
 
 pub mod answer;
+pub mod books;
 pub mod command;
 pub mod compare;
 pub mod craft;

@@ -17,3 +17,4 @@ mod stream;
 mod text;
 mod thirteen;
 mod typed;
+mod unlucky;
