@@ -1,10 +1,10 @@
 // Operations, and the cells of a class.
 ghost use Rattle.std.specs.Prelude.{◌≡◌, ◌*◌, ◌<◌, false, length, replicate, if◌then◌else◌};
 ghost use Rattle.std.proofs.Math.Option.{none, some};
-ghost use Rattle.plain.specs.Sizes.{classCount, cellCount};
+ghost use Rattle.plain.specs.Sizes.{class_count, cell_count};
 ghost use Rattle.plain.specs.Ops as P;
 ghost use Rattle.plain.specs.Decides.{Decides};
-ghost use Rattle.cells.specs.Ops.{cells_of, spliced, noOp, op_of, OpOk};
+ghost use Rattle.cells.specs.Ops.{cells_of, spliced, no_op, op_of, OpOk};
 
 use std::num::wrapping_add_u32;
 
@@ -65,14 +65,14 @@ pub fn op_ok(op: Op) -> bool
 
 // Whether an operation is all zero.
 pub fn op_zero(op: Op) -> bool
-    ensures { Decides result (op ≡ noOp) }
+    ensures { Decides result (op ≡ no_op) }
 {
     (op.code == 0) & (op.cell == 0) & (op.second == 0) & (op.amount == 0)
 }
 
 // One operation on the cells of its class. False: it declines, and leaves them.
 pub fn carry(cells: &mut [u32], op: Op) -> bool
-    requires { (length cells.old ≡ cellCount) × OpOk op }
+    requires { (length cells.old ≡ cell_count) × OpOk op }
     ensures cells_value { P.carry (op_of op) cells.old ≡ (if result then some cells.new else none) }
     ensures cells_unchanged { result ≡ false → cells.new ≡ cells.old }
 {
@@ -126,8 +126,8 @@ pub fn copy_cells(to: &mut [u32], from: &[u32])
 
 // The cells of class c of `to` become those of `from`.
 pub fn copy_class(to: &mut [u32], from: &[u32], c: usize)
-    requires { (length to.old ≡ classCount * cellCount) × (length from.now ≡ classCount * cellCount) × (c < classCount) }
-    ensures { to.new ≡ spliced to.old (cellCount * c) cellCount (cells_of from.now c) }
+    requires { (length to.old ≡ class_count * cell_count) × (length from.now ≡ class_count * cell_count) × (c < class_count) }
+    ensures { to.new ≡ spliced to.old (cell_count * c) cell_count (cells_of from.now c) }
 {
     let a = CELLS * c;
     let b = a + CELLS;

@@ -1,12 +1,12 @@
 // The pieces of the soundness check: each decides one of document 01's rules, of the slots' fields gathered once, the queue places and the
 // classes' lengths.
 ghost use Rattle.std.specs.Prelude.{◌≡◌, ◌+◌, ◌≤◌, length};
-ghost use Rattle.plain.specs.Sizes.{slotCount, queryCount};
+ghost use Rattle.plain.specs.Sizes.{slot_count, query_count};
 ghost use Rattle.plain.specs.Decides.{Decides};
-ghost use Rattle.store.specs.Store.{runSize, placeCount};
+ghost use Rattle.store.specs.Store.{run_size, place_count};
 ghost use Rattle.store.specs.Sound.{Short};
 ghost use Rattle.store.specs.Checks.{nth, due, SlotsIn, Owned, Staged, Lined, Classed, MapOf, Unnumbered, Differ, ZeroFrom, Tails, FreeIn};
-ghost use Rattle.store.specs.Checks.{stand, Next, QueueOk, PlacesOk, Named, InRange, sumOf, SumsIn, numbered, LaidOut, Heads, HeadsHold, HeadCells};
+ghost use Rattle.store.specs.Checks.{stand, Next, QueueOk, PlacesOk, Named, InRange, sum_over, SumsIn, numbered, LaidOut, Heads, HeadsHold, HeadCells};
 
 mod once; // once.rt: what stands in the queues
 
@@ -140,7 +140,7 @@ fn lens_short(lens: &[u8; CLASSES]) -> bool
 
 // Whether the places from one to before another are zero: all are looked at, without a branch.
 fn zero_from(queue: &[u8; PLACES], from: usize, end: usize) -> bool
-    requires { (from ≤ end) × (end ≤ placeCount) }
+    requires { (from ≤ end) × (end ≤ place_count) }
     ensures { Decides result (ZeroFrom queue.now from end) }
 {
     let mut zero = true;
@@ -261,7 +261,7 @@ fn queue_ok<'a>(
     len: usize,
     confirmations: u32,
 ) -> bool
-    requires { (a + len ≤ placeCount) × Named queue.now a len }
+    requires { (a + len ≤ place_count) × Named queue.now a len }
     ensures { Decides result (QueueOk (nth lines.now) (nth dones.now) (nth marks.now) queue.now confirmations a len) }
 {
     let mut p = 0;
@@ -324,8 +324,8 @@ fn wide(x: u8) -> u16
 
 // The work calls that the confirmed part of a queue takes which begins at a.
 fn sum_of<'a>(dues: &'a [u8; CLASS_PLACES], queue: &'a [u8; PLACES], a: usize, len: usize) -> u16
-    requires { (a + len ≤ placeCount) × (len ≤ 136) × Named queue.now a len }
-    ensures { result ≡ sumOf (nth dues.now) queue.now a len }
+    requires { (a + len ≤ place_count) × (len ≤ 136) × Named queue.now a len }
+    ensures { result ≡ sum_over (nth dues.now) queue.now a len }
 {
     let mut w: u16 = 0;
     let mut p = 0;
@@ -374,7 +374,7 @@ fn free_zero(table: [Query; QUERIES]) -> bool
 
 // How many slots hold a number.
 fn numbered(lines: &[u32; CLASS_PLACES]) -> u32
-    ensures { result ≡ numbered (nth lines.now) slotCount }
+    ensures { result ≡ numbered (nth lines.now) slot_count }
 {
     let mut n = 0;
     let mut s = 0;
@@ -405,7 +405,7 @@ fn agree<'a>(
     top: u32,
     commits: u32,
 ) -> bool
-    requires { (length queue.now ≡ placeCount) × (length table ≡ queryCount) × Classed (nth classes.now) × Unnumbered (nth ids.now) (nth lines.now) }
+    requires { (length queue.now ≡ place_count) × (length table ≡ query_count) × Classed (nth classes.now) × Unnumbered (nth ids.now) (nth lines.now) }
     ensures { Decides result (LaidOut (nth ids.now) (nth classes.now) (nth lines.now) (nth lines.now) (nth dones.now) (nth marks.now) (nth dues.now) queue.now lens.now sums.now table low high top commits) }
 {
     if !free_zero(table) {
@@ -485,7 +485,7 @@ pub fn cells_ok(
     committed: &[u32],
     working: &[u32],
 ) -> bool
-    requires committed_len { (length committed.now ≡ runSize) × (length working.now ≡ runSize) }
+    requires committed_len { (length committed.now ≡ run_size) × (length working.now ≡ run_size) }
     requires heads_hold { HeadsHold slots heads }
     ensures { Decides result (HeadCells slots heads committed.now working.now) }
 {

@@ -1,11 +1,11 @@
 // "Every used slot stands exactly once, in the queue of its class, and no free slot stands in one"; "every entry belongs to an open query, and an open
 // query has one entry or more, one at most in each": what stands at the places is taken from what may stand, and at the end nothing is left.
 ghost use Rattle.std.specs.Prelude.{◌≡◌, ◌<◌, ◌≤◌, length};
-ghost use Rattle.plain.specs.Sizes.{queryCount};
+ghost use Rattle.plain.specs.Sizes.{query_count};
 ghost use Rattle.plain.specs.Decides.{Decides};
-ghost use Rattle.store.specs.Store.{placeCount};
+ghost use Rattle.store.specs.Store.{place_count};
 ghost use Rattle.store.specs.Sound.{Short};
-ghost use Rattle.store.specs.Checks.{nth, flagOf, Classed, OnceIn, OneTaken, EntryTaken, ClassTaken, NamesNone, AllRead};
+ghost use Rattle.store.specs.Checks.{nth, flag_of, Classed, OnceIn, OneTaken, EntryTaken, ClassTaken, NamesNone, AllRead};
 
 use crate::{CLASS_PLACES, LONGEST, PLACES, QUERIES, SLOT_LIMIT, SLOTS};
 use cells::CLASSES;
@@ -82,7 +82,7 @@ fn class_once<'a>(
     c: usize,
     len: usize,
 ) -> Unseen
-    requires { (c < 16) × (len ≤ 136) × (length queue.now ≡ placeCount) }
+    requires { (c < 16) × (len ≤ 136) × (length queue.now ≡ place_count) }
     ensures { ClassTaken (nth classes.now) all.lo all.hi all.table queue.now c len result.ok result.lo result.hi result.table }
 {
     let mut u = all;
@@ -130,8 +130,8 @@ pub fn each_once<'a>(
     low: u64,
     high: u64,
 ) -> bool
-    requires { (length queue.now ≡ placeCount) × (length table ≡ queryCount) × Short lens.now × Classed (nth classes.now) }
-    ensures { Decides result (OnceIn (flagOf low high) (nth classes.now) table queue.now lens.now) }
+    requires { (length queue.now ≡ place_count) × (length table ≡ query_count) × Short lens.now × Classed (nth classes.now) }
+    ensures { Decides result (OnceIn (flag_of low high) (nth classes.now) table queue.now lens.now) }
 {
     let mut u = Unseen {
         ok: true,

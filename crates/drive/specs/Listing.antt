@@ -4,12 +4,12 @@ use Rattle.std.proofs.Math.Option.{Option, none, some}
 use Rattle.plain.specs.Site.{Call}
 use Rattle.store.specs.Calls.{State}
 use Rattle.promises.specs.Runs.{FromFresh}
-use Rattle.event.specs.Event.{eventSize, call_of, Listed}
+use Rattle.event.specs.Event.{event_size, call_of, Listed}
 use Rattle.input.specs.Pieces.{pieces, behind}
 
 -- the events of an input are its 72-byte pieces in order; the last may be short
-abbrev pub eventsOf : List ℕ → List (List ℕ)
-eventsOf input = pieces eventSize input
+abbrev pub events_of : List ℕ → List (List ℕ)
+events_of input = pieces event_size input
 
 -- ONE EVENT at a place leads from x to y, and its line is put behind what stood before
 pub record ListsOne (x : State) (place : ℕ) (b : List ℕ) (y : State) (before text : List ℕ) : Type 0 where
@@ -36,9 +36,9 @@ calls_of (b ∷ bs) h = calls_of bs (asked (call_of b) h)
 
 -- A RUN SO FAR from a fresh site x: the events of what was read led to y, which is where their calls lead from fresh; `then` is the next place
 pub record Ran (x : State) (read : List ℕ) (y : State) (then : ℕ) (text : List ℕ) : Type 0 where
-  pub lists : Lists x 1 (eventsOf read) y text
-  pub from-fresh : FromFresh (calls_of (eventsOf read) []) y
-  pub counts : then ≡ behind 1 (length (eventsOf read))
+  pub lists : Lists x 1 (events_of read) y text
+  pub from_fresh : FromFresh (calls_of (events_of read) []) y
+  pub counts : then ≡ behind 1 (length (events_of read))
 
 -- something was read, and led from x to y
 abbrev pub RanTo : State → State → Type 0

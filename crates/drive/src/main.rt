@@ -5,7 +5,7 @@ ghost use Rattle.site.specs.Held.{state_of};
 ghost use Rattle.promises.specs.Runs.{FromFresh};
 ghost use Rattle.line.specs.Text.{written};
 ghost use Rattle.input.specs.Pieces.{behind};
-ghost use Rattle.drive.specs.Listing.{eventsOf, ListsOne, Lists, RanTo};
+ghost use Rattle.drive.specs.Listing.{events_of, ListsOne, Lists, RanTo};
 
 use decimal::put;
 use event::{EVENT, answer_event};
@@ -81,8 +81,8 @@ fn list_block(
 ) -> Block
     requires input_len_bound { length input.now ≤ 32400 }
     requires text_len { length text.old ≡ 65536 }
-    ensures lists { Lists (state_of site committed.old working.old) first (eventsOf input.now) (state_of result.site committed.new working.new) (take result.len text.new) }
-    ensures place_value { result.place ≡ behind first (length (eventsOf input.now)) }
+    ensures lists { Lists (state_of site committed.old working.old) first (events_of input.now) (state_of result.site committed.new working.new) (take result.len text.new) }
+    ensures place_value { result.place ≡ behind first (length (events_of input.now)) }
     ensures len_bound { result.len ≤ 65536 }
 {
     let n = input.len();

@@ -10,16 +10,16 @@ use Rattle.promised.specs.Promised.{Promised}
 use Rattle.line.specs.Text.{line_of}
 
 -- an event has 72 bytes: kind, class, cell, an unused byte, a 4-byte number, a 64-byte record
-abbrev pub eventSize : ℕ
-eventSize = 72
+abbrev pub event_size : ℕ
+event_size = 72
 
 -- the number that refuses a short event, and one of no known kind
-abbrev pub badEvent : ℕ
-badEvent = 13
+abbrev pub bad_event : ℕ
+bad_event = 13
 
 -- the call by kind: 1 offer, 2 confirm (its id is the record's first four bytes), 3 work, 4 read; what a kind has no use for is not looked at
-abbrev pub callOfKind : ℕ → List ℕ → Option Call
-callOfKind kind b =
+abbrev pub call_of_kind : ℕ → List ℕ → Option Call
+call_of_kind kind b =
     cond (eqb kind 1) (some (offer (drop 8 b)))
     (cond (eqb kind 2) (some (confirm (number b 8) (number b 4)))
     (cond (eqb kind 3) (some (work (byte b 1)))
@@ -27,7 +27,7 @@ callOfKind kind b =
 
 -- the call that an event's bytes ask for, or nothing
 unfoldable pub call_of : List ℕ → Option Call
-call_of b = cond (eqb (length b) eventSize) (callOfKind (byte b 0) b) none
+call_of b = cond (eqb (length b) event_size) (call_of_kind (byte b 0) b) none
 
 -- the cells that a work event gives where it reads the entry of a query: the committed ones of its class
 abbrev pub read_by : List ℕ → List ℕ → List ℕ
@@ -36,7 +36,7 @@ read_by b run = cells_of run (byte b 1)
 -- AN EVENT: its call is made, with all that is promised of it, or it is refused with 13 and nothing is touched
 pub record Happened (x : State) (bytes : List ℕ) (y : State) (a : Answer) : Type 0 where
   pub is_call : (k : Call) → call_of bytes ≡ some k → Promised x k y a
-  pub bad : call_of bytes ≡ none → (y ≡ x) × (a ≡ refused badEvent)
+  pub bad : call_of bytes ≡ none → (y ≡ x) × (a ≡ refused bad_event)
 
 -- ITS LINE: the event's place in the input, and what was answered
 pub record Listed (x : State) (place : ℕ) (bytes : List ℕ) (y : State) (text : List ℕ) : Type 0 where

@@ -7,7 +7,7 @@ use mathlib.Core.Bool.{cond}
 use mathlib.Core.List.{List, [], ◌∷◌}
 use lib.Dec.{eqb}
 use lib.ListN.{length, get_or}
-use Rattle.plain.specs.Steps.{Answer, refused, queued, stepped, executed, committed, waiting, value, toDo, unconfirmed, begun, entry}
+use Rattle.plain.specs.Steps.{Answer, refused, queued, stepped, executed, committed, waiting, value, to_do, unconfirmed, begun, entry}
 use Rattle.plain.specs.Site.{Call, work}
 use Rattle.site.specs.declared.Answer as D
 use Rattle.site.specs.declared.Answer.TheVariants as v
@@ -16,24 +16,24 @@ use types.Run.{OneOf}
 use denote.Enum.Declared.{tag_of}
 use Rattle.site.specs.Held.{answer_of}
 use Rattle.text.specs.Calls as T
-use Rattle.text.proofs.Laws.{one-outcome-of-write, one-outcome-of-read}
+use Rattle.text.proofs.Laws.{one_outcome_of_write, one_outcome_of_read}
 use Rattle.store.specs.Store.{Store}
 use Rattle.store.specs.Meaning.{cells_of}
 use Rattle.store.specs.Calls.{State}
 use Rattle.promised.specs.Promised.{Promised}
 use Rattle.promises.proofs.Promises.{promises}
-use Rattle.host.specs.Told.{told, asked, shown, toldFresh, toldText, Told, ToldWork, ToldFresh, ToldText, Readable}
+use Rattle.host.specs.Told.{told, asked, shown, told_fresh, told_text, Told, ToldWork, ToldFresh, ToldText, Readable}
 
 -- what is told of a value whose case is known
 pub known : {A : Type 0} (f : A → List ℕ) (a b : A) (t : List ℕ) → a ≡ b → t ≡ f b → t ≡ f a
 known f a b t e h = rw e h
 
-pub known-answer : (c : ℕ) (cells : List ℕ) (a b : D.Answer) (l : List ℕ) → a ≡ b → l ≡ told c (answer_of b cells) → l ≡ told c (answer_of a cells)
-known-answer c cells = known (λ x. told c (answer_of x cells))
+pub known_answer : (c : ℕ) (cells : List ℕ) (a b : D.Answer) (l : List ℕ) → a ≡ b → l ≡ told c (answer_of b cells) → l ≡ told c (answer_of a cells)
+known_answer c cells = known (λ x. told c (answer_of x cells))
 
 -- the answer that six numbers tell, and of an entry its cells: what it is, and its numbers
-abbrev answerAt : List ℕ → ℕ → (ℕ → ℕ) → Answer
-answerAt cells what n =
+abbrev answer_at : List ℕ → ℕ → (ℕ → ℕ) → Answer
+answer_at cells what n =
     cond (eqb what 0) (refused (n 1))
     (cond (eqb what 1) (queued (n 1) (n 2) (n 3) (n 4))
     (cond (eqb what 2) (stepped (n 1) (n 2))
@@ -41,54 +41,54 @@ answerAt cells what n =
     (cond (eqb what 4) (committed (n 1) (n 2) (n 3) (n 4) (n 5))
     (cond (eqb what 5) (waiting (n 1) (n 2) (n 3))
     (cond (eqb what 6) (value (n 1))
-    (cond (eqb what 7) (toDo (n 1) (n 2))
+    (cond (eqb what 7) (to_do (n 1) (n 2))
     (cond (eqb what 8) (unconfirmed (n 1))
     (cond (eqb what 11) (begun (n 1)) (entry (n 1) cells))))))))))
 
 abbrev pub heard : List ℕ → List ℕ → Answer
-heard cells l = answerAt cells (get_or l 0 0) (λ k. get_or l k 0)
+heard cells l = answer_at cells (get_or l 0 0) (λ k. get_or l k 0)
 
-pub nothing-lost : (c : ℕ) (before : List ℕ) (a : Answer) → heard (shown a before) (told c a) ≡ a
-nothing-lost c before (refused reason) = refl
-nothing-lost c before (queued id class place slot) = refl
-nothing-lost c before (stepped id done) = refl
-nothing-lost c before (executed id) = refl
-nothing-lost c before (committed id number mark slot backs) = refl
-nothing-lost c before (waiting id w put_back) = refl
-nothing-lost c before (value cell) = refl
-nothing-lost c before (toDo w backs) = refl
-nothing-lost c before (unconfirmed backs) = refl
-nothing-lost c before (begun place) = refl
-nothing-lost c before (entry place cells) = refl
+pub nothing_lost : (c : ℕ) (before : List ℕ) (a : Answer) → heard (shown a before) (told c a) ≡ a
+nothing_lost c before (refused reason) = refl
+nothing_lost c before (queued id class place slot) = refl
+nothing_lost c before (stepped id done) = refl
+nothing_lost c before (executed id) = refl
+nothing_lost c before (committed id number mark slot backs) = refl
+nothing_lost c before (waiting id w put_back) = refl
+nothing_lost c before (value cell) = refl
+nothing_lost c before (to_do w backs) = refl
+nothing_lost c before (unconfirmed backs) = refl
+nothing_lost c before (begun place) = refl
+nothing_lost c before (entry place cells) = refl
 
 -- an array lent for an entry holds its cells; whatever else is answered leaves it
-pub shown-entry : (a : D.Answer) (place : ℕ) (cells old new : List ℕ) → a ≡ v.Entry place → new ≡ cells → new ≡ shown (answer_of a cells) old
-shown-entry a place cells old new e h = rw e h
+pub shown_entry : (a : D.Answer) (place : ℕ) (cells old new : List ℕ) → a ≡ v.Entry place → new ≡ cells → new ≡ shown (answer_of a cells) old
+shown_entry a place cells old new e h = rw e h
 
-no-entry : OneOf (0 ∷ 1 ∷ 2 ∷ 3 ∷ 4 ∷ 5 ∷ 6 ∷ 7 ∷ 8 ∷ 9 ∷ []) 10 → ⊥
-no-entry (inl e) = omega arith
-no-entry (inr (inl e)) = omega arith
-no-entry (inr (inr (inl e))) = omega arith
-no-entry (inr (inr (inr (inl e)))) = omega arith
-no-entry (inr (inr (inr (inr (inl e))))) = omega arith
-no-entry (inr (inr (inr (inr (inr (inl e)))))) = omega arith
-no-entry (inr (inr (inr (inr (inr (inr (inl e))))))) = omega arith
-no-entry (inr (inr (inr (inr (inr (inr (inr (inl e)))))))) = omega arith
-no-entry (inr (inr (inr (inr (inr (inr (inr (inr (inl e))))))))) = omega arith
-no-entry (inr (inr (inr (inr (inr (inr (inr (inr (inr e))))))))) = omega arith
+no_entry : OneOf (0 ∷ 1 ∷ 2 ∷ 3 ∷ 4 ∷ 5 ∷ 6 ∷ 7 ∷ 8 ∷ 9 ∷ []) 10 → ⊥
+no_entry (inl e) = omega arith
+no_entry (inr (inl e)) = omega arith
+no_entry (inr (inr (inl e))) = omega arith
+no_entry (inr (inr (inr (inl e)))) = omega arith
+no_entry (inr (inr (inr (inr (inl e))))) = omega arith
+no_entry (inr (inr (inr (inr (inr (inl e)))))) = omega arith
+no_entry (inr (inr (inr (inr (inr (inr (inl e))))))) = omega arith
+no_entry (inr (inr (inr (inr (inr (inr (inr (inl e)))))))) = omega arith
+no_entry (inr (inr (inr (inr (inr (inr (inr (inr (inl e))))))))) = omega arith
+no_entry (inr (inr (inr (inr (inr (inr (inr (inr (inr e))))))))) = omega arith
 
-pub shown-other : (a : D.Answer) (cells old : List ℕ) → OneOf (0 ∷ 1 ∷ 2 ∷ 3 ∷ 4 ∷ 5 ∷ 6 ∷ 7 ∷ 8 ∷ 9 ∷ []) (tag_of the_type a) → old ≡ shown (answer_of a cells) old
-shown-other (v.Refused n) cells old h = refl
-shown-other (v.Queued id class place slot) cells old h = refl
-shown-other (v.Stepped id done) cells old h = refl
-shown-other (v.Executed id) cells old h = refl
-shown-other (v.Committed id number mark slot backs) cells old h = refl
-shown-other (v.Waiting id w back) cells old h = refl
-shown-other (v.Value n) cells old h = refl
-shown-other (v.ToDo w backs) cells old h = refl
-shown-other (v.Unconfirmed backs) cells old h = refl
-shown-other (v.Begun place) cells old h = refl
-shown-other (v.Entry place) cells old h = absurd (no-entry h)
+pub shown_other : (a : D.Answer) (cells old : List ℕ) → OneOf (0 ∷ 1 ∷ 2 ∷ 3 ∷ 4 ∷ 5 ∷ 6 ∷ 7 ∷ 8 ∷ 9 ∷ []) (tag_of the_type a) → old ≡ shown (answer_of a cells) old
+shown_other (v.Refused n) cells old h = refl
+shown_other (v.Queued id class place slot) cells old h = refl
+shown_other (v.Stepped id done) cells old h = refl
+shown_other (v.Executed id) cells old h = refl
+shown_other (v.Committed id number mark slot backs) cells old h = refl
+shown_other (v.Waiting id w back) cells old h = refl
+shown_other (v.Value n) cells old h = refl
+shown_other (v.ToDo w backs) cells old h = refl
+shown_other (v.Unconfirmed backs) cells old h = refl
+shown_other (v.Begun place) cells old h = refl
+shown_other (v.Entry place) cells old h = absurd (no_entry h)
 
 pub read_right : (a : D.Answer) (place : ℕ) (run : List ℕ) (c : ℕ) → a ≡ v.Entry place → Readable a run c → (length run ≡ 1024) × (c < 16)
 read_right a place run c e h = subst (λ (b : D.Answer). Readable b run c) e h
@@ -96,7 +96,7 @@ read_right a place run c e h = subst (λ (b : D.Answer). Readable b run c) e h
 -- where an entry was read its class has cells
 pub readable : (x : State) (c : ℕ) (y : State) (a : D.Answer) → Promised x (work c) y (answer_of a (cells_of y.committed c)) → Readable a y.committed c
 readable x c y (v.Entry place) p =
-    let r = promises.only-work-reads p.happens in
+    let r = promises.only_work_reads p.happens in
     let e : work c ≡ work r.0 = r.1 in
     let q : c ≡ r.0 = cc in
     (r.3.0, rw q r.2)
@@ -112,53 +112,53 @@ readable x c y (v.Unconfirmed backs) p = tt
 readable x c y (v.Begun place) p = tt
 
 -- the same numbers are told of it with any cells
-pub same-told : (c : ℕ) (a : D.Answer) (cells : List ℕ) → told c (answer_of a []) ≡ told c (answer_of a cells)
-same-told c (v.Refused n) cells = refl
-same-told c (v.Queued id class place slot) cells = refl
-same-told c (v.Stepped id done) cells = refl
-same-told c (v.Executed id) cells = refl
-same-told c (v.Committed id number mark slot backs) cells = refl
-same-told c (v.Waiting id w back) cells = refl
-same-told c (v.Value n) cells = refl
-same-told c (v.ToDo w backs) cells = refl
-same-told c (v.Unconfirmed backs) cells = refl
-same-told c (v.Begun place) cells = refl
-same-told c (v.Entry place) cells = refl
+pub same_told : (c : ℕ) (a : D.Answer) (cells : List ℕ) → told c (answer_of a []) ≡ told c (answer_of a cells)
+same_told c (v.Refused n) cells = refl
+same_told c (v.Queued id class place slot) cells = refl
+same_told c (v.Stepped id done) cells = refl
+same_told c (v.Executed id) cells = refl
+same_told c (v.Committed id number mark slot backs) cells = refl
+same_told c (v.Waiting id w back) cells = refl
+same_told c (v.Value n) cells = refl
+same_told c (v.ToDo w backs) cells = refl
+same_told c (v.Unconfirmed backs) cells = refl
+same_told c (v.Begun place) cells = refl
+same_told c (v.Entry place) cells = refl
 
 -- ONE OUTCOME
-pub one-outcome : {x y z : State} {k : Call} {l m : List ℕ} → Told x k y l → Told x k z m → (y ≡ z) × (l ≡ m)
-one-outcome {k = k} t u =
-    let same = promises.one-outcome t.promised.happens u.promised.happens in
+pub one_outcome : {x y z : State} {k : Call} {l m : List ℕ} → Told x k y l → Told x k z m → (y ≡ z) × (l ≡ m)
+one_outcome {k = k} t u =
+    let same = promises.one_outcome t.promised.happens u.promised.happens in
     (same.0, t.says ∙ ap (told (asked k)) same.1 ∙ sym u.says)
 
-pub one-work : {x y z : State} {c : ℕ} {before after after' l m : List ℕ} → ToldWork x c y before after l → ToldWork x c z before after' m
+pub one_work : {x y z : State} {c : ℕ} {before after after' l m : List ℕ} → ToldWork x c y before after l → ToldWork x c z before after' m
     → (y ≡ z) × (after ≡ after') × (l ≡ m)
-one-work {before = before} t u =
-    let same = promises.one-outcome t.told.promised.happens u.told.promised.happens in
-    let both = one-outcome t.told u.told in
+one_work {before = before} t u =
+    let same = promises.one_outcome t.told.promised.happens u.told.promised.happens in
+    let both = one_outcome t.told u.told in
     (both.0, t.cells ∙ ap (λ (a : Answer). shown a before) same.1 ∙ sym u.cells, both.1)
 
-pub one-fresh : {base wrk base' wrk' base'' wrk'' l m : List ℕ} {t u : Store} → ToldFresh base wrk t base' wrk' l → ToldFresh base wrk u base'' wrk'' m
+pub one_fresh : {base wrk base' wrk' base'' wrk'' l m : List ℕ} {t u : Store} → ToldFresh base wrk t base' wrk' l → ToldFresh base wrk u base'' wrk'' m
     → (t ≡ u) × (base' ≡ base'') × (wrk' ≡ wrk'') × (l ≡ m)
-one-fresh p q =
-    let same = promises.one-fresh p.begun.started q.begun.started in
-    (same.0, same.2, same.3, p.says ∙ ap toldFresh same.1 ∙ sym q.says)
+one_fresh p q =
+    let same = promises.one_fresh p.begun.started q.begun.started in
+    (same.0, same.2, same.3, p.says ∙ ap told_fresh same.1 ∙ sym q.says)
 
 -- of a text, by what was done
-one-text : (D E : T.Answer → Type 0) {after after' l m : List ℕ} → ((a b : T.Answer) → D a → E b → (a ≡ b) × (after ≡ after')) → ToldText D l → ToldText E m
+one_text : (D E : T.Answer → Type 0) {after after' l m : List ℕ} → ((a b : T.Answer) → D a → E b → (a ≡ b) × (after ≡ after')) → ToldText D l → ToldText E m
     → (after ≡ after') × (l ≡ m)
-one-text D E one p q =
+one_text D E one p q =
     let same = one p.answer q.answer p.done q.done in
-    (same.1, p.says ∙ ap toldText same.0 ∙ sym q.says)
+    (same.1, p.says ∙ ap told_text same.0 ∙ sym q.says)
 
 pub one_written : {bytes before after after' l m : List ℕ} → ToldText (λ a. T.Wrote bytes before a after) l
     → ToldText (λ a. T.Wrote bytes before a after') m → (after ≡ after') × (l ≡ m)
 one_written {bytes} {before} {after} {after'} =
-    one-text (λ a. T.Wrote bytes before a after) (λ a. T.Wrote bytes before a after')
-    (λ a b d e. one-outcome-of-write bytes before a b after after' d e)
+    one_text (λ a. T.Wrote bytes before a after) (λ a. T.Wrote bytes before a after')
+    (λ a b d e. one_outcome_of_write bytes before a b after after' d e)
 
-pub one-read : {text before after after' l m : List ℕ} → ToldText (λ a. T.Took text before a after) l
+pub one_read : {text before after after' l m : List ℕ} → ToldText (λ a. T.Took text before a after) l
     → ToldText (λ a. T.Took text before a after') m → (after ≡ after') × (l ≡ m)
-one-read {text} {before} {after} {after'} =
-    one-text (λ a. T.Took text before a after) (λ a. T.Took text before a after')
-    (λ a b d e. one-outcome-of-read text before a b after after' d e)
+one_read {text} {before} {after} {after'} =
+    one_text (λ a. T.Took text before a after) (λ a. T.Took text before a after')
+    (λ a b d e. one_outcome_of_read text before a b after after' d e)

@@ -1,12 +1,12 @@
 -- What a host reads of an answer: six numbers, and what a host's call does with its site, cells and numbers. Assumes nothing.
 use Rattle.std.specs.Prelude.{ℕ, zero, suc, ◌<◌, ◌≡◌, List, [], ◌∷◌, length}
-use Rattle.plain.specs.Sizes.{classCount}
-use Rattle.plain.specs.Steps.{Answer, refused, queued, stepped, executed, committed, waiting, value, toDo, unconfirmed, begun, entry}
+use Rattle.plain.specs.Sizes.{class_count}
+use Rattle.plain.specs.Steps.{Answer, refused, queued, stepped, executed, committed, waiting, value, to_do, unconfirmed, begun, entry}
 use Rattle.plain.specs.Site.{Call, offer, confirm, work, read, look, query}
 use Rattle.site.specs.declared.Answer as D
 use Rattle.site.specs.declared.Answer.TheVariants as a
 use Rattle.text.specs.Calls as T
-use Rattle.store.specs.Store.{Store, runSize}
+use Rattle.store.specs.Store.{Store, run_size}
 use Rattle.store.specs.Calls.{State}
 use Rattle.promised.specs.Promised.{Promised, Begun}
 
@@ -19,7 +19,7 @@ told asked (executed id) = 3 ∷ id ∷ 0 ∷ 0 ∷ 0 ∷ 0 ∷ []
 told asked (committed id number mark slot backs) = 4 ∷ id ∷ number ∷ mark ∷ slot ∷ backs ∷ []
 told asked (waiting id w put_back) = 5 ∷ id ∷ w ∷ put_back ∷ 0 ∷ 0 ∷ []
 told asked (value cell) = 6 ∷ cell ∷ 0 ∷ 0 ∷ 0 ∷ 0 ∷ []
-told asked (toDo w backs) = 7 ∷ w ∷ backs ∷ 0 ∷ 0 ∷ 0 ∷ []
+told asked (to_do w backs) = 7 ∷ w ∷ backs ∷ 0 ∷ 0 ∷ 0 ∷ []
 told asked (unconfirmed backs) = 8 ∷ backs ∷ 0 ∷ 0 ∷ 0 ∷ 0 ∷ []
 told asked (begun place) = 11 ∷ place ∷ 0 ∷ 0 ∷ 0 ∷ 0 ∷ []
 told asked (entry place cells) = 12 ∷ place ∷ asked ∷ 0 ∷ 0 ∷ 0 ∷ []
@@ -43,14 +43,14 @@ shown (executed id) old = old
 shown (committed id number mark slot backs) old = old
 shown (waiting id w put_back) old = old
 shown (value cell) old = old
-shown (toDo w backs) old = old
+shown (to_do w backs) old = old
 shown (unconfirmed backs) old = old
 shown (begun place) old = old
 
 -- fresh has its own: 9 where it started a site, or the refusal
-abbrev pub toldFresh : ℕ → List ℕ
-toldFresh zero = 9 ∷ 0 ∷ 0 ∷ 0 ∷ 0 ∷ 0 ∷ []
-toldFresh (suc n) = told 0 (refused (suc n))
+abbrev pub told_fresh : ℕ → List ℕ
+told_fresh zero = 9 ∷ 0 ∷ 0 ∷ 0 ∷ 0 ∷ 0 ∷ []
+told_fresh (suc n) = told 0 (refused (suc n))
 
 -- A HOST'S CALL: the call beneath was made, with all that is promised of it, and the numbers are those of its answer
 pub record Told (x : State) (k : Call) (y : State) (numbers : List ℕ) : Type 0 where
@@ -64,26 +64,26 @@ pub record ToldWork (x : State) (c : ℕ) (y : State) (before after numbers : Li
   pub cells : after ≡ shown told.answer before
 
 -- of the text form: 10 and the length of what was written; or the refusal, that of a bad text with its first bad line
-abbrev pub toldText : T.Answer → List ℕ
-toldText (T.wrote length) = 10 ∷ length ∷ 0 ∷ 0 ∷ 0 ∷ 0 ∷ []
-toldText (T.refused number) = 0 ∷ number ∷ 0 ∷ 0 ∷ 0 ∷ 0 ∷ []
-toldText (T.refusedAt number line) = 0 ∷ number ∷ line ∷ 0 ∷ 0 ∷ 0 ∷ []
+abbrev pub told_text : T.Answer → List ℕ
+told_text (T.wrote length) = 10 ∷ length ∷ 0 ∷ 0 ∷ 0 ∷ 0 ∷ []
+told_text (T.refused number) = 0 ∷ number ∷ 0 ∷ 0 ∷ 0 ∷ 0 ∷ []
+told_text (T.refused_at number line) = 0 ∷ number ∷ line ∷ 0 ∷ 0 ∷ 0 ∷ []
 
 -- A HOST'S TEXT: what was done of the text form answered so, and the numbers are those of its answer
 pub record ToldText (Done : T.Answer → Type 0) (numbers : List ℕ) : Type 0 where
   pub answer : T.Answer
   pub done : Done answer
-  pub says : numbers ≡ toldText answer
+  pub says : numbers ≡ told_text answer
 
 -- A HOST'S FRESH START: the start beneath was made, with all that is promised of it, and the numbers say whether it was refused
 pub record ToldFresh (base wrk : List ℕ) (site : Store) (base' wrk' numbers : List ℕ) : Type 0 where
   pub reason : ℕ
   pub begun : Begun base wrk site reason base' wrk'
-  pub says : numbers ≡ toldFresh reason
+  pub says : numbers ≡ told_fresh reason
 
 -- where an answer is an entry that was read, the run has the cells of the class
 abbrev pub Readable : D.Answer → List ℕ → ℕ → Type 0
-Readable (a.Entry place) run c = (length run ≡ runSize) × (c < classCount)
+Readable (a.Entry place) run c = (length run ≡ run_size) × (c < class_count)
 Readable (a.Refused n) run c = Unit
 Readable (a.Queued id class place slot) run c = Unit
 Readable (a.Stepped id done) run c = Unit

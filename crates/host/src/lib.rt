@@ -4,7 +4,7 @@ ghost use Rattle.plain.specs.Site.{offer, confirm, work, read, look, query};
 ghost use Rattle.store.specs.Meaning.{cells_of};
 ghost use Rattle.text.specs.Calls as T;
 ghost use Rattle.site.specs.Held.{store, state_of, answer_of};
-ghost use Rattle.host.specs.Told.{told, shown, toldFresh, toldText, Told, ToldWork, ToldFresh, ToldText, Readable};
+ghost use Rattle.host.specs.Told.{told, shown, told_fresh, told_text, Told, ToldWork, ToldFresh, ToldText, Readable};
 
 use cells::{CELLS, copy_cells};
 use site::{Answer, Site};
@@ -115,7 +115,7 @@ fn tell(answer: Answer, class: u64, out: &mut [u64; NUMBERS])
 
 // The six numbers of a fresh start that was refused under a number, or was not.
 fn numbers_of_fresh(refused: u8) -> [u64; NUMBERS]
-    ensures { result ≡ toldFresh refused }
+    ensures { result ≡ told_fresh refused }
 {
     if refused == 0 {
         return [STARTED, 0, 0, 0, 0, 0];
@@ -125,7 +125,7 @@ fn numbers_of_fresh(refused: u8) -> [u64; NUMBERS]
 
 // The six numbers of what came of a text.
 fn numbers_of_text(outcome: Outcome) -> [u64; NUMBERS]
-    ensures { result ≡ toldText (T.answer_of outcome) }
+    ensures { result ≡ told_text (T.answer_of outcome) }
 {
     match outcome {
         Outcome::Length(n) => [WRITTEN, n as u64, 0, 0, 0, 0],

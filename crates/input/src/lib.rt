@@ -1,7 +1,7 @@
 // Standard input, read by blocks. What the system hands over is assumed to be the input; no contract can say what it is.
 ghost use Rattle.std.specs.Prelude.{◌≤◌, ◌≡◌};
 ghost use Rattle.io.specs.Counts.{IsPrefixLen};
-ghost use Rattle.input.specs.Pieces.{wholePart};
+ghost use Rattle.input.specs.Pieces.{whole_part};
 
 use libc::STDIN_FILENO;
 
@@ -38,7 +38,7 @@ pub fn fill(buf: &mut [u8]) -> Got
 // How many of the bytes that were read are to be answered, where the input comes in pieces: all of them, for the last piece of an input may be
 // short; but only whole pieces where a read failed. A size of 0 has no pieces.
 pub fn whole(got: Got, size: usize) -> usize
-    ensures value { result ≡ wholePart got.failed size got.len }
+    ensures value { result ≡ whole_part got.failed size got.len }
     ensures upper_bound { result ≤ got.len }
 {
     if !got.failed {

@@ -11,9 +11,9 @@ use lib.Seq.{get_or-set_same, get_or-set_other}
 use borrow.Author.Tests.{eqb-true, eqb-false, eq-eqb, ne_eqb, not-true}
 use Rattle.plain.specs.Decides.{Decides}
 use Rattle.plain.specs.Site.{Recent}
-use Rattle.plain.proofs.Tests.{by-test, no}
+use Rattle.plain.proofs.Tests.{by_test, no}
 use Rattle.plain.proofs.Deciding.{holds}
-use Rattle.store.proofs.Agree.{decides-flags}
+use Rattle.store.proofs.Agree.{decides_flags}
 use Rattle.store.specs.Meaning.{under}
 use Rattle.store.specs.Sound.{Apart}
 use Rattle.store.specs.Checks.{InUse, Spare, Filled, KeptApart, Among, MatchesAll}
@@ -21,8 +21,8 @@ use Rattle.store.proofs.KeptIds.{place_of, differ_of}
 use Rattle.kept.specs.Marks.{MarkedUpTo}
 
 -- no place is both in use and to spare
-pub not-both : (top p : ℕ) → InUse top p → Spare top p → ⊥
-not-both top p u v = omega (arith, u.1.given, u.1.within, u.2, v.1, v.2, v.3)
+pub not_both : (top p : ℕ) → InUse top p → Spare top p → ⊥
+not_both top p u v = omega (arith, u.1.given, u.1.within, u.2, v.1, v.2, v.3)
 
 pub all_in_use : (top p : ℕ) → 256 ≤ top → p < 256 → InUse top p
 all_in_use top p full l = go (place_of top p l)
@@ -32,14 +32,14 @@ all_in_use top p full l = go (place_of top p l)
     go (inr v) = absurd (omega (arith, v.1, v.2))
 
 -- before 256 numbers were given they stand from place 1 on
-pub first-spare : (top : ℕ) → top < 256 → InUse top 0 → ⊥
-first-spare top few u = not-both top 0 u (256, few, omega arith, omega arith)
+pub first_spare : (top : ℕ) → top < 256 → InUse top 0 → ⊥
+first_spare top few u = not_both top 0 u (256, few, omega arith, omega arith)
 
-pub used-from-one : (top p : ℕ) → 0 < p → p ≤ top → top < 256 → InUse top p
-used-from-one top p l m few = (p, record { given = l; within = m; last = omega arith }, omega arith)
+pub used_from_one : (top p : ℕ) → 0 < p → p ≤ top → top < 256 → InUse top p
+used_from_one top p l m few = (p, record { given = l; within = m; last = omega arith }, omega arith)
 
-pub spare-past : (top p : ℕ) → top < p → p < 256 → InUse top p → ⊥
-spare-past top p l m u = not-both top p u (p, l, omega arith, omega arith)
+pub spare_past : (top p : ℕ) → top < p → p < 256 → InUse top p → ⊥
+spare_past top p l m u = not_both top p u (p, l, omega arith, omega arith)
 
 -- a place holds an id exactly if it is in use
 abbrev pub PlaceFilled : ℕ → List ℕ → ℕ → Type 0
@@ -50,27 +50,27 @@ module _ (top : ℕ) (kept : List ℕ) (p : ℕ) (b : Bool) (d : Decides b (InUs
   abbrev held : Bool
   held = not (eqb (get_or kept p 0) 0)
 
-  pub flag-filled : beq b held ≡ true → PlaceFilled top kept p
-  flag-filled e =
-      let same : b ≡ held = (decides-flags b held).yes e in (
+  pub flag_filled : beq b held ≡ true → PlaceFilled top kept p
+  flag_filled e =
+      let same : b ≡ held = (decides_flags b held).yes e in (
         (λ u. let ne = eqb-false (get_or kept p 0) 0 (not-true _ (sym same ∙ holds d u)) in omega arith),
-        (λ n. by-test (eqb (get_or kept p 0) 0) (λ y. eqb-true _ 0 y) (λ f. absurd (n (d.yes (same ∙ rw f))))),
+        (λ n. by_test (eqb (get_or kept p 0) 0) (λ y. eqb-true _ 0 y) (λ f. absurd (n (d.yes (same ∙ rw f))))),
       )
 
-  pub filled-flag : PlaceFilled top kept p → beq b held ≡ false → ⊥
-  filled-flag h f = (decides-flags b held).no f (by-test b
+  pub filled_flag : PlaceFilled top kept p → beq b held ≡ false → ⊥
+  filled_flag h f = (decides_flags b held).no f (by_test b
       (λ t. let l = h.0 (d.yes t) in t ∙ rw (ne_eqb (get_or kept p 0) 0 (λ z. omega arith)))
       (λ g. g ∙ rw (eq-eqb (get_or kept p 0) 0 (h.1 (d.no g)))))
 
 module _ (top : ℕ) (kept : List ℕ) where
   pub filled_of : ((p : ℕ) → p < 256 → PlaceFilled top kept p) → Filled top kept
   filled_of h = record {
-    not-zero = λ n r. (h (n % 256) (omega arith)).0 (n, r, omega arith);
-    unused = λ n l m. (h (n % 256) (omega arith)).1 (λ u. not-both top (n % 256) u (n, l, m, omega arith));
+    not_zero = λ n r. (h (n % 256) (omega arith)).0 (n, r, omega arith);
+    unused = λ n l m. (h (n % 256) (omega arith)).1 (λ u. not_both top (n % 256) u (n, l, m, omega arith));
   }
 
   pub filled_at : Filled top kept → (p : ℕ) → p < 256 → PlaceFilled top kept p
-  filled_at f p l = ((λ u. rw (← u.2) (f.not-zero u.0 u.1)), (λ n. go n (place_of top p l)))
+  filled_at f p l = ((λ u. rw (← u.2) (f.not_zero u.0 u.1)), (λ n. go n (place_of top p l)))
     where
       go : (InUse top p → ⊥) → InUse top p ⊎ Spare top p → get_or kept p 0 ≡ 0
       go n (inl u) = absurd (n u)
@@ -86,32 +86,32 @@ module _ (top : ℕ) (kept : List ℕ) where
 
   -- THE RULE OF A REQUEST: its number is kept, or its id is not
   module _ (f : Filled top kept) (apart : KeptApart kept) (number id : ℕ) (pos : 0 < id) where
-    pub number-kept : Recent top number → id ≡ under kept number → MatchesAll top kept number id
-    number-kept r e n q = ((λ z. rw (← z) e), (λ z. differ_of top kept f.not-zero apart number n r q (sym e ∙ z)))
+    pub number_kept : Recent top number → id ≡ under kept number → MatchesAll top kept number id
+    number_kept r e n q = ((λ z. rw (← z) e), (λ z. differ_of top kept f.not_zero apart number n r q (sym e ∙ z)))
 
-    pub id-free : (Among kept 256 id → ⊥) → (Recent top number → ⊥) → MatchesAll top kept number id
-    id-free a m n q = ((λ z. absurd (m (rw z q))), (λ z. absurd (a (n % 256, omega arith, sym z))))
+    pub id_free : (Among kept 256 id → ⊥) → (Recent top number → ⊥) → MatchesAll top kept number id
+    id_free a m n q = ((λ z. absurd (m (rw z q))), (λ z. absurd (a (n % 256, omega arith, sym z))))
 
-    pub has-number : Among kept 256 id → MatchesAll top kept number id → Recent top number
-    has-number a h = let u = found f id pos a in rw ((h u.0 u.1).1 (sym u.2)) u.1
+    pub has_number : Among kept 256 id → MatchesAll top kept number id → Recent top number
+    has_number a h = let u = found f id pos a in rw ((h u.0 u.1).1 (sym u.2)) u.1
 
 -- MARKS: one more, and what an unset mark tells
-pub mark-more : (kept marks : List ℕ) (p : ℕ) → length marks ≡ 4096 → MarkedUpTo kept marks p → MarkedUpTo kept (set marks (get_or kept p 0 % 4096) 1) (p + 1)
-mark-more kept marks p n h k l =
-    by-test (eqb (get_or kept k 0 % 4096) (get_or kept p 0 % 4096))
+pub mark_more : (kept marks : List ℕ) (p : ℕ) → length marks ≡ 4096 → MarkedUpTo kept marks p → MarkedUpTo kept (set marks (get_or kept p 0 % 4096) 1) (p + 1)
+mark_more kept marks p n h k l =
+    by_test (eqb (get_or kept k 0 % 4096) (get_or kept p 0 % 4096))
     (λ y. let e = eqb-true (get_or kept k 0 % 4096) (get_or kept p 0 % 4096) y in rw (e, get_or-set_same marks (get_or kept p 0 % 4096) 1 0 (omega arith)) (omega arith))
     (λ f. let ne = eqb-false (get_or kept k 0 % 4096) (get_or kept p 0 % 4096) f in
     rw (get_or-set_other marks (get_or kept p 0 % 4096) (get_or kept k 0 % 4096) 1 0 ne) (h k (before ne)))
   where
     before : (get_or kept k 0 % 4096 ≡ get_or kept p 0 % 4096 → ⊥) → k < p
-    before ne = by-test (eqb k p) (λ y. absurd (ne (ap (λ (j : ℕ). get_or kept j 0 % 4096) (eqb-true k p y)))) (λ f. let m = eqb-false k p f in omega arith)
+    before ne = by_test (eqb k p) (λ y. absurd (ne (ap (λ (j : ℕ). get_or kept j 0 % 4096) (eqb-true k p y)))) (λ f. let m = eqb-false k p f in omega arith)
 
 pub unmarked : (kept marks : List ℕ) (n id : ℕ) → MarkedUpTo kept marks n → get_or marks (id % 4096) 0 ≡ 0 → Among kept n id → ⊥
 unmarked kept marks n id h z a = let m = h a.0 a.1 in omega (arith, rw a.2 at m)
 
 -- one place more: its id is 0, or not among those before
 pub apart_more : (f : ℕ → ℕ) (p : ℕ) → Apart p f → (f p ≡ 0) ⊎ ((i : ℕ) → i < p → f i ≡ f p → ⊥) → Apart (p + 1) f
-apart_more f p h new i j l m e = by-test (eqb j p) (λ y. last (eqb-true j p y)) (λ g. let ne = eqb-false j p g in h i j l (omega arith) e)
+apart_more f p h new i j l m e = by_test (eqb j p) (λ y. last (eqb-true j p y)) (λ g. let ne = eqb-false j p g in h i j l (omega arith) e)
   where
     last : j ≡ p → f i ≡ 0
     last y = elim new [ inl z ↦ e ∙ rw y z | inr n ↦ absurd (n i (omega arith) (rw (← y) e)) ]
@@ -120,7 +120,7 @@ apart_more f p h new i j l m e = by-test (eqb j p) (λ y. last (eqb-true j p y))
 pub new : (kept : List ℕ) (p : ℕ) → ((0 < get_or kept p 0) × Among kept p (get_or kept p 0) → ⊥)
     → (get_or kept p 0 ≡ 0) ⊎ ((i : ℕ) → i < p → get_or kept i 0 ≡ get_or kept p 0 → ⊥)
 new kept p n =
-    by-test (eqb (get_or kept p 0) 0)
+    by_test (eqb (get_or kept p 0) 0)
     (λ y. inl (eqb-true _ 0 y))
     (λ f. let ne = eqb-false (get_or kept p 0) 0 f in inr (λ i l e. n (omega arith, (i, l, e))))
 
@@ -128,5 +128,5 @@ new kept p n =
 pub some_id : (i : ℕ) → (i ≡ 0 → ⊥) → not (eqb i 0) ≡ true
 some_id i ne = rw (ne_eqb i 0 ne)
 
-pub no-id : (i : ℕ) → i ≡ 0 → not (eqb i 0) ≡ true → ⊥
-no-id i z u = no _ u (rw (eq-eqb i 0 z))
+pub no_id : (i : ℕ) → i ≡ 0 → not (eqb i 0) ≡ true → ⊥
+no_id i z u = no _ u (rw (eq-eqb i 0 z))

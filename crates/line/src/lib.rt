@@ -2,7 +2,7 @@
 ghost use Rattle.std.specs.Prelude.{◌+◌, ◌*◌, ◌≤◌, ◌≡◌, [], ◌++◌, length};
 ghost use Rattle.site.specs.Held.{answer_of};
 ghost use Rattle.decimal.specs.Decimal.{decimal, blanked};
-ghost use Rattle.line.specs.Text.{lineWith, line_of, written};
+ghost use Rattle.line.specs.Text.{line_with, line_of, written};
 
 use site::Answer;
 
@@ -60,7 +60,7 @@ pub fn line_of(place: u64, answer: Answer) -> Line
 fn whole(place: u64, word: &[u8], numbers: &[u64]) -> Line
     requires word_len_bound { length word.now ≤ 11 }
     requires numbers_len_bound { length numbers.now ≤ 5 }
-    ensures result_value { written result ≡ lineWith place word.now numbers.now }
+    ensures result_value { written result ≡ line_with place word.now numbers.now }
     ensures len_bound { result.len ≤ 144 }
 {
     let empty = Line {

@@ -15,14 +15,14 @@ module _ {A : Type 0} where
 
   -- p in the place of the n from a on
   module _ (a n : ℕ) (l p : List A) (h : a + n ≤ length l) (e : length p ≡ n) where
-    pub put-own : take n (drop a (put_mid a n l p)) ≡ p
-    put-own = rw (drop_at (take a l) (p ++ post_of a n l) a (length-take-le a l (omega arith))) (take_at p (post_of a n l) n e)
+    pub put_own : take n (drop a (put_mid a n l p)) ≡ p
+    put_own = rw (drop_at (take a l) (p ++ post_of a n l) a (length-take-le a l (omega arith))) (take_at p (post_of a n l) n e)
 
-    pub put-apart : (b m : ℕ) → (b + m ≤ a) ⊎ (a + n ≤ b) → take m (drop b (put_mid a n l p)) ≡ take m (drop b l)
-    put-apart b m (inl k) =
+    pub put_apart : (b m : ℕ) → (b + m ≤ a) ⊎ (a + n ≤ b) → take m (drop b (put_mid a n l p)) ≡ take m (drop b l)
+    put_apart b m (inl k) =
         let len : length (take a l) ≡ a = length-take-le a l (omega arith) in
         front m b (take a l) (p ++ post_of a n l) (omega arith) ∙ sym (front m b (take a l) (drop a l) (omega arith)) ∙ rw (take-append-drop a l)
-    put-apart b m (inr k) =
+    put_apart b m (inr k) =
         let len : length (take a l ++ p) ≡ a + n = omega (arith, length-append (take a l) p, length-take-le a l (omega arith)) in
         let past = b - (a + n) in
         let at : b ≡ length (take a l ++ p) + past = omega arith in

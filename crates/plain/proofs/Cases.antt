@@ -4,20 +4,20 @@ use Prim.Native.Nat.{ℕ, zero, suc, ◌-◌}
 use mathlib.Core.Path.{◌≡◌, refl}
 use mathlib.Core.List.{List, [], ◌∷◌, ◌++◌, map}
 use lib.ListN.{length, drop, set, replicate}
-use Rattle.plain.specs.Sizes.{slotCount, mostW}
-use Rattle.plain.specs.Ops.{Op, put, add, need, move, carry, opOk, valid}
-use Rattle.plain.specs.Record.{requestIn, isRecord, request}
-use Rattle.plain.specs.Steps.{Answer, refused, queued, stepped, executed, committed, waiting, value, toDo, unconfirmed, begun, entry}
-use Rattle.plain.specs.Steps.{offerStep, workStep, confirmStep, queryStep}
-use Rattle.plain.specs.Site.{Call, work, confirm, read, look, query, fresh, zeros, call, act, refusal, class_of, isFree, freeSlot, numberQueued, isKept}
-use Rattle.plain.specs.Site.{sum, standing, bits, named, firstNamed, isOpen, freePlace}
-use Rattle.plain.specs.History.{after, back_by, putBacks}
-use Rattle.plain.specs.Told.{news, overtakers, queriesMet}
-use Rattle.plain.proofs.Written.{fourBytes, opBytes, opsBytes, recordOf, offerOf, answers}
+use Rattle.plain.specs.Sizes.{slot_count, most_w}
+use Rattle.plain.specs.Ops.{Op, put, add, need, move, carry, op_ok, valid}
+use Rattle.plain.specs.Record.{request_in, is_record, request}
+use Rattle.plain.specs.Steps.{Answer, refused, queued, stepped, executed, committed, waiting, value, to_do, unconfirmed, begun, entry}
+use Rattle.plain.specs.Steps.{offer_step, work_step, confirm_step, query_step}
+use Rattle.plain.specs.Site.{Call, work, confirm, read, look, query, fresh, zeros, call, act, refusal, class_of, is_free, slot_free, number_queued, is_kept}
+use Rattle.plain.specs.Site.{sum, standing, bits, named, first_named, is_open, free_place}
+use Rattle.plain.specs.History.{after, back_by, put_backs}
+use Rattle.plain.specs.Told.{news, overtakers, queries_met}
+use Rattle.plain.proofs.Written.{four_bytes, bytes_of_op, ops_bytes, record_of, offer_of, answers}
 
 -- request i of class 0; and its whole run as number n: offered, confirmed, worked off
 req : ℕ → List Op → Call
-req i os = offerOf i 0 os
+req i os = offer_of i 0 os
 
 works : List Op → List Call
 works [] = []
@@ -99,7 +99,7 @@ table =
     -- the count of times put back: one more each time, whatever was done; the same when it is confirmed, moves and commits; none for the others
     ∷ record {
       calls = req 1 (put 0 1 ∷ []) ∷ req 2 (put 0 2 ∷ []) ∷ req 3 (put 0 3 ∷ []) ∷ look 1 ∷ work 0 ∷ confirm 2 1 ∷ look 1 ∷ look 2 ∷ work 0 ∷ confirm 3 2 ∷ confirm 1 3 ∷ look 1 ∷ work 0 ∷ work 0 ∷ [];
-      end = unconfirmed 0 ∷ executed 1 ∷ waiting 2 1 1 ∷ unconfirmed 1 ∷ toDo 1 0 ∷ committed 2 1 0 1 0 ∷ waiting 3 1 1 ∷ waiting 1 2 0 ∷ toDo 2 2 ∷ committed 3 2 0 2 0 ∷ committed 1 3 0 0 2 ∷ [];
+      end = unconfirmed 0 ∷ executed 1 ∷ waiting 2 1 1 ∷ unconfirmed 1 ∷ to_do 1 0 ∷ committed 2 1 0 1 0 ∷ waiting 3 1 1 ∷ waiting 1 2 0 ∷ to_do 2 2 ∷ committed 3 2 0 2 0 ∷ committed 1 3 0 0 2 ∷ [];
     }
     -- a query of no class is refused, and only 16 classes are looked at; one of classes 0 and 1 puts the executed head back, and reads the cells
     -- without it in both
@@ -111,7 +111,7 @@ table =
     -- of an offer, and leaves the W of the request before it
     ∷ record {
       calls = req 1 (put 0 5 ∷ []) ∷ req 2 (put 0 6 ∷ []) ∷ confirm 1 1 ∷ query 1 ∷ look 1 ∷ confirm 2 2 ∷ req 3 (put 0 7 ∷ []) ∷ work 0 ∷ work 0 ∷ work 0 ∷ [];
-      end = waiting 1 1 0 ∷ begun 1 ∷ toDo 1 0 ∷ waiting 2 3 0 ∷ queued 3 0 4 2 ∷ committed 1 1 0 0 0 ∷ entry 1 (set zeros 0 5) ∷ committed 2 2 0 1 0 ∷ [];
+      end = waiting 1 1 0 ∷ begun 1 ∷ to_do 1 0 ∷ waiting 2 3 0 ∷ queued 3 0 4 2 ∷ committed 1 1 0 0 0 ∷ entry 1 (set zeros 0 5) ∷ committed 2 2 0 1 0 ∷ [];
     }
     -- a query is open until its last entry is read, and the lowest free place is taken; 8 may be open
     ∷ record {
@@ -121,24 +121,24 @@ table =
     ∷ record { calls = replicate 9 (query 32768) ++ (work 15 ∷ query 32768 ∷ []); end = begun 7 ∷ begun 8 ∷ refused 18 ∷ entry 1 zeros ∷ begun 1 ∷ [] }
     -- the most that W can be: all slots hold requests of seven operations in one class, all but the last are confirmed, and 8 queries stand before it
     ∷ record {
-      calls = each (λ i. req i seven) slotCount ++ each (λ i. confirm i i) 127 ++ replicate 8 (query 1) ++ (confirm slotCount slotCount ∷ []);
-      end = waiting slotCount mostW 0 ∷ [];
+      calls = each (λ i. req i seven) slot_count ++ each (λ i. confirm i i) 127 ++ replicate 8 (query 1) ++ (confirm slot_count slot_count ∷ []);
+      end = waiting slot_count most_w 0 ∷ [];
     }
     ∷ []
 
 -- each case's last answers are those of the table
 pub cases : map (λ (k : Case). last (length k.end) (answers fresh k.calls)) table ≡ map (λ (k : Case). k.end) table
-unfolding table works run req each seven last top fourBytes opBytes opsBytes recordOf offerOf answers fresh call act refusal class_of isFree freeSlot numberQueued isKept sum standing bits named firstNamed isOpen freePlace offerStep workStep confirmStep queryStep requestIn isRecord request valid opOk carry
+unfolding table works run req each seven last top four_bytes bytes_of_op ops_bytes record_of offer_of answers fresh call act refusal class_of is_free slot_free number_queued is_kept sum standing bits named first_named is_open free_place offer_step work_step confirm_step query_step request_in is_record request valid op_ok carry
 cases = refl
 
 -- how unlucky: requests 1, 2, 3 and 5 of class 0 wait, and 4 of class 1. 2 is confirmed and worked off, a query of class 0 is read, 3 is confirmed: each
 -- puts 1 back, and counts. 4, of another class, does not count, nor do 5 and a query once 1 is confirmed, nor 2, which is older, for 3. The latest call
 -- stands first
-pub unlucky-run : List Call
-unlucky-run =
-    query 1 ∷ confirm 5 5 ∷ confirm 1 4 ∷ confirm 3 3 ∷ work 0 ∷ query 1 ∷ confirm 4 2 ∷ work 0 ∷ confirm 2 1 ∷ offerOf 4 1 (put 0 4 ∷ [])
+pub unlucky_run : List Call
+unlucky_run =
+    query 1 ∷ confirm 5 5 ∷ confirm 1 4 ∷ confirm 3 3 ∷ work 0 ∷ query 1 ∷ confirm 4 2 ∷ work 0 ∷ confirm 2 1 ∷ offer_of 4 1 (put 0 4 ∷ [])
     ∷ req 5 (put 0 5 ∷ []) ∷ req 3 (put 0 3 ∷ []) ∷ req 2 (put 0 2 ∷ []) ∷ req 1 (put 0 1 ∷ []) ∷ []
 
-pub unlucky-case : (putBacks 1 unlucky-run ≡ 3) × (overtakers 1 (news unlucky-run) ≡ 2) × (queriesMet 1 (news unlucky-run) ≡ 1) × (overtakers 3 (news unlucky-run) ≡ 0)
-unfolding unlucky-run req top fourBytes opBytes opsBytes recordOf offerOf fresh call act refusal class_of isFree freeSlot numberQueued isKept sum standing bits named firstNamed isOpen freePlace offerStep workStep confirmStep queryStep requestIn isRecord request valid opOk carry after back_by putBacks news overtakers queriesMet
-unlucky-case = (refl, refl, refl, refl)
+pub unlucky_case : (put_backs 1 unlucky_run ≡ 3) × (overtakers 1 (news unlucky_run) ≡ 2) × (queries_met 1 (news unlucky_run) ≡ 1) × (overtakers 3 (news unlucky_run) ≡ 0)
+unfolding unlucky_run req top four_bytes bytes_of_op ops_bytes record_of offer_of fresh call act refusal class_of is_free slot_free number_queued is_kept sum standing bits named first_named is_open free_place offer_step work_step confirm_step query_step request_in is_record request valid op_ok carry after back_by put_backs news overtakers queries_met
+unlucky_case = (refl, refl, refl, refl)

@@ -1,17 +1,17 @@
 -- The thirteen events of document 01's driving program and their listing, computed. Assumes nothing.
 use mathlib.Core.Path.{◌≡◌, refl}
 use mathlib.Core.List.{List, [], ◌∷◌}
-use Rattle.plain.specs.Ops.{put, add, carry, opOk, valid}
-use Rattle.plain.specs.Record.{requestIn, isRecord, request}
-use Rattle.plain.specs.Steps.{Answer, refused, queued, stepped, executed, committed, waiting, value, offerStep, workStep, confirmStep}
-use Rattle.plain.specs.Site.{Call, work, confirm, read, fresh, call, act, refusal, class_of, isFree, freeSlot, numberQueued, isKept}
+use Rattle.plain.specs.Ops.{put, add, carry, op_ok, valid}
+use Rattle.plain.specs.Record.{request_in, is_record, request}
+use Rattle.plain.specs.Steps.{Answer, refused, queued, stepped, executed, committed, waiting, value, offer_step, work_step, confirm_step}
+use Rattle.plain.specs.Site.{Call, work, confirm, read, fresh, call, act, refusal, class_of, is_free, slot_free, number_queued, is_kept}
 use Rattle.plain.specs.Site.{sum, standing}
-use Rattle.plain.proofs.Written.{fourBytes, opBytes, opsBytes, recordOf, offerOf, answers}
+use Rattle.plain.proofs.Written.{four_bytes, bytes_of_op, ops_bytes, record_of, offer_of, answers}
 
 pub events : List Call
 events =
-    offerOf 7 3 (put 0 100 ∷ add 1 5 ∷ [])
-    ∷ offerOf 9 3 (add 0 4294967295 ∷ [])
+    offer_of 7 3 (put 0 100 ∷ add 1 5 ∷ [])
+    ∷ offer_of 9 3 (add 0 4294967295 ∷ [])
     ∷ work 3
     ∷ confirm 9 1
     ∷ work 3
@@ -43,5 +43,5 @@ lines =
     ∷ []
 
 pub listing : answers fresh events ≡ lines
-unfolding events lines fourBytes opBytes opsBytes recordOf offerOf answers fresh call act refusal class_of isFree freeSlot numberQueued isKept sum standing offerStep workStep confirmStep requestIn isRecord request valid opOk carry
+unfolding events lines four_bytes bytes_of_op ops_bytes record_of offer_of answers fresh call act refusal class_of is_free slot_free number_queued is_kept sum standing offer_step work_step confirm_step request_in is_record request valid op_ok carry
 listing = refl

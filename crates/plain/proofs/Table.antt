@@ -10,7 +10,7 @@ use lib.Dec.{T, ltb, ltb→lt}
 use Rattle.plain.specs.Site.{Site, Call, offer, work, confirm, read, look, query, tests, row, first, refusal, call, accepts}
 use Rattle.plain.specs.Steps.{refused}
 use Rattle.plain.specs.Sound.{All}
-use Rattle.plain.proofs.Tests.{by-test}
+use Rattle.plain.proofs.Tests.{by_test}
 
 -- no test of a list holds
 abbrev pub NoneHolds : List (Bool × ℕ) → Type 0
@@ -30,20 +30,20 @@ pub record Given (ts : List (Bool × ℕ)) (n : ℕ) : Type 0 where
   pub fails : NoneHolds before
   pub holds : test ≡ true
 
-pub none-holds : (m : ℕ) (ts : List (Bool × ℕ)) → Rising m ts → first ts ≡ 0 → NoneHolds ts
-none-holds m [] n e = tt
-none-holds m (t ∷ ts) n e =
-    by-test t.0
+pub none_holds : (m : ℕ) (ts : List (Bool × ℕ)) → Rising m ts → first ts ≡ 0 → NoneHolds ts
+none_holds m [] n e = tt
+none_holds m (t ∷ ts) n e =
+    by_test t.0
     (λ y. let z : t.1 ≡ 0 = rw y at e in absurd (omega (arith, ltb→lt m (row t.1) n.0, ap row z)))
-    (λ f. (f, none-holds (row t.1) ts n.1 (rw f at e)))
+    (λ f. (f, none_holds (row t.1) ts n.1 (rw f at e)))
 
 -- exactly when, both ways
-pub first-given : (ts : List (Bool × ℕ)) → NoneHolds ts ⊎ Given ts (first ts)
-first-given [] = inl tt
-first-given (t ∷ ts) =
-    by-test t.0
+pub first_given : (ts : List (Bool × ℕ)) → NoneHolds ts ⊎ Given ts (first ts)
+first_given [] = inl tt
+first_given (t ∷ ts) =
+    by_test t.0
     (λ y. inr (rw y (record { before = []; test = true; behind = ts; is = refl; fails = tt; holds = refl })))
-    (λ f. more f (first-given ts))
+    (λ f. more f (first_given ts))
   where
     more : t.0 ≡ false → NoneHolds ts ⊎ Given ts (first ts) → NoneHolds (t ∷ ts) ⊎ Given (t ∷ ts) (first (t ∷ ts))
     more f (inl n) = inl (f, n)
@@ -58,8 +58,8 @@ first-given (t ∷ ts) =
           holds = g.holds;
         }))
 
-pub given-first : (ts : List (Bool × ℕ)) (n : ℕ) → Given ts n → first ts ≡ n
-given-first ts n g = rw g.is (go g.before g.fails)
+pub given_first : (ts : List (Bool × ℕ)) (n : ℕ) → Given ts n → first ts ≡ n
+given_first ts n g = rw g.is (go g.before g.fails)
   where
     go : (before : List (Bool × ℕ)) → NoneHolds before → first (before ++ (g.test, n) ∷ g.behind) ≡ n
     go [] h = rw g.holds
@@ -69,7 +69,7 @@ given-first ts n g = rw g.is (go g.before g.fails)
 pub in_order : (m : ℕ) (ts : List (Bool × ℕ)) → Rising m ts → All (λ t. t.0 ≡ true → row (first ts) ≤ row t.1) ts
 in_order m [] r = tt
 in_order m (t ∷ ts) r =
-    by-test t.0
+    by_test t.0
     (λ y. rw y ((λ e. omega arith), above (row t.1) ts r.1))
     (λ f. rw f ((λ e. no_both e), in_order (row t.1) ts r.1))
   where
@@ -94,6 +94,6 @@ rising s (look i) = (tt, tt)
 rising s (query m) = (tt, (tt, (tt, tt)))
 
 -- A refused call changes nothing, and answers its number
-pub refused-same : (s : Site) (k : Call) → accepts s k ≡ false → call s k ≡ record { site = s; answer = refused (refusal s k) }
+pub refused_same : (s : Site) (k : Call) → accepts s k ≡ false → call s k ≡ record { site = s; answer = refused (refusal s k) }
 unfolding call
-refused-same s k f = rw f
+refused_same s k f = rw f

@@ -8,9 +8,9 @@ use Rattle.plain.specs.Ops.{every}
 use Rattle.plain.specs.Sound.{All}
 
 -- by cases on a test, with what it came to
-pub by-test {ℓ} : {X : Type ℓ} (b : Bool) → (b ≡ true → X) → (b ≡ false → X) → X
-by-test true f g = f refl
-by-test false f g = g refl
+pub by_test {ℓ} : {X : Type ℓ} (b : Bool) → (b ≡ true → X) → (b ≡ false → X) → X
+by_test true f g = f refl
+by_test false f g = g refl
 
 -- a test does not come to both
 pub no : {X : Type 0} (b : Bool) → b ≡ true → b ≡ false → X
@@ -31,7 +31,7 @@ and_both false b e = no _ e refl
 -- all of a list of tests hold
 pub all_true : (bs : List Bool) → every bs ≡ true → All (λ b. b ≡ true) bs
 all_true [] e = tt
-all_true (b ∷ bs) e = by-test b (λ y. (y, all_true bs (rw y at e))) (λ f. no _ e (rw f))
+all_true (b ∷ bs) e = by_test b (λ y. (y, all_true bs (rw y at e))) (λ f. no _ e (rw f))
 
 pub every_true : (bs : List Bool) → All (λ b. b ≡ true) bs → every bs ≡ true
 every_true [] h = refl

@@ -25,49 +25,49 @@ pub data Item : Type 0 where
   reading : (place begun : ℕ) → Item
 
 -- a request is executed when all its operations are done
-abbrev pub isExecuted : Item → Bool
-isExecuted (booking e) = leb (length (ops_of e)) e.done
-isExecuted (reading p b) = false
+abbrev pub is_executed : Item → Bool
+is_executed (booking e) = leb (length (ops_of e)) e.done
+is_executed (reading p b) = false
 
 -- is it a request with this id? this slot? this definitive number? one that has a number?
-abbrev pub idIs : ℕ → Item → Bool
-idIs i (booking e) = eqb (id_of e) i
-idIs i (reading p b) = false
+abbrev pub id_is : ℕ → Item → Bool
+id_is i (booking e) = eqb (id_of e) i
+id_is i (reading p b) = false
 
-abbrev pub slotIs : ℕ → Item → Bool
-slotIs i (booking e) = eqb e.slot i
-slotIs i (reading p b) = false
+abbrev pub slot_is : ℕ → Item → Bool
+slot_is i (booking e) = eqb e.slot i
+slot_is i (reading p b) = false
 
-abbrev pub numberIs : ℕ → Item → Bool
-numberIs n (booking e) = ltb 0 n && eqb e.number n
-numberIs n (reading p b) = false
+abbrev pub number_is : ℕ → Item → Bool
+number_is n (booking e) = ltb 0 n && eqb e.number n
+number_is n (reading p b) = false
 
-abbrev pub hasNumber : Item → Bool
-hasNumber (booking e) = ltb 0 e.number
-hasNumber (reading p b) = false
+abbrev pub has_number : Item → Bool
+has_number (booking e) = ltb 0 e.number
+has_number (reading p b) = false
 
 -- is it an entry of a query? of that with this place? of that with this place which began at this count?
-abbrev pub isReading : Item → Bool
-isReading (booking e) = false
-isReading (reading p b) = true
+abbrev pub is_reading : Item → Bool
+is_reading (booking e) = false
+is_reading (reading p b) = true
 
-abbrev pub placeIs : ℕ → Item → Bool
-placeIs i (booking e) = false
-placeIs i (reading p b) = eqb p i
+abbrev pub place_is : ℕ → Item → Bool
+place_is i (booking e) = false
+place_is i (reading p b) = eqb p i
 
-abbrev pub readingIs : ℕ → ℕ → Item → Bool
-readingIs i n (booking e) = false
-readingIs i n (reading p b) = eqb p i && eqb b n
+abbrev pub reading_is : ℕ → ℕ → Item → Bool
+reading_is i n (booking e) = false
+reading_is i n (reading p b) = eqb p i && eqb b n
 
 -- does it stand among the confirmed?
-abbrev pub isConfirmed : Item → Bool
-isConfirmed (booking e) = ltb 0 e.number
-isConfirmed (reading p b) = true
+abbrev pub is_confirmed : Item → Bool
+is_confirmed (booking e) = ltb 0 e.number
+is_confirmed (reading p b) = true
 
 -- how often it was put back
-abbrev pub backsOf : Item → ℕ
-backsOf (booking e) = e.backs
-backsOf (reading p b) = 0
+abbrev pub backs_of : Item → ℕ
+backs_of (booking e) = e.backs
+backs_of (reading p b) = 0
 
 -- by what it stands in line: the number, or the count at the beginning
 abbrev pub line : Item → ℕ
@@ -101,9 +101,9 @@ abbrev pub first_of : (Item → Bool) → List Item → Option Item
 first_of f [] = none
 first_of f (x ∷ q) = cond (f x) (some x) (first_of f q)
 
-abbrev pub dropOf : (Item → Bool) → List Item → List Item
-dropOf f [] = []
-dropOf f (x ∷ q) = cond (f x) q (x ∷ dropOf f q)
+abbrev pub drop_of : (Item → Bool) → List Item → List Item
+drop_of f [] = []
+drop_of f (x ∷ q) = cond (f x) q (x ∷ drop_of f q)
 
 abbrev pub up_to : (Item → Bool) → List Item → ℕ
 up_to f [] = 0
@@ -111,21 +111,21 @@ up_to f (x ∷ q) = left x + cond (f x) 0 (up_to f q)
 
 -- the same for an id; W is the operations still to do by the request and by all before it, and the entries before it
 abbrev pub has : ℕ → List Item → Bool
-has i q = any (idIs i) q
+has i q = any (id_is i) q
 
 abbrev pub entry_of : ℕ → List Item → Option Item
-entry_of i q = first_of (idIs i) q
+entry_of i q = first_of (id_is i) q
 
 abbrev pub without : ℕ → List Item → List Item
-without i q = dropOf (idIs i) q
+without i q = drop_of (id_is i) q
 
 abbrev pub owed : ℕ → List Item → ℕ
-owed i q = up_to (idIs i) q
+owed i q = up_to (id_is i) q
 
 -- the confirmed ones of a queue
-abbrev pub confirmedPart : List Item → List Item
-confirmedPart [] = []
-confirmedPart (x ∷ q) = cond (isConfirmed x) (x ∷ confirmedPart q) (confirmedPart q)
+abbrev pub confirmed_part : List Item → List Item
+confirmed_part [] = []
+confirmed_part (x ∷ q) = cond (is_confirmed x) (x ∷ confirmed_part q) (confirmed_part q)
 
 -- the work calls that these still take, one after another
 abbrev pub costs : List Item → ℕ
@@ -133,10 +133,10 @@ costs [] = 0
 costs (x ∷ q) = left x + costs q
 
 -- the operations and query entries still to do by the confirmed part of a queue
-unfoldable pub confirmedCosts : List Item → ℕ
-confirmedCosts q = costs (confirmedPart q)
+unfoldable pub confirmed_costs : List Item → ℕ
+confirmed_costs q = costs (confirmed_part q)
 
 -- the queue with e directly before the first waiting one
-abbrev pub beforeWaiting : Item → List Item → List Item
-beforeWaiting e [] = e ∷ []
-beforeWaiting e (x ∷ q) = cond (isConfirmed x) (x ∷ beforeWaiting e q) (e ∷ x ∷ q)
+abbrev pub before_waiting : Item → List Item → List Item
+before_waiting e [] = e ∷ []
+before_waiting e (x ∷ q) = cond (is_confirmed x) (x ∷ before_waiting e q) (e ∷ x ∷ q)

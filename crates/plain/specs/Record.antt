@@ -1,7 +1,7 @@
 -- The request record of document 01: 64 bytes, as a list of numbers, to a request or nothing. Assumes nothing.
 use Rattle.std.specs.Prelude.{ℕ, zero, suc, ◌+◌, ◌*◌, Bool, true, false, cond, ◌&&◌, List, [], ◌∷◌, map, leb, ltb, eqb, length, get_or}
 use Rattle.std.proofs.Math.Option.{Option, none, some}
-use Rattle.plain.specs.Sizes.{mostOps, recordSize, opSize, firstOp}
+use Rattle.plain.specs.Sizes.{most_ops, record_size, op_size, first_op}
 use Rattle.plain.specs.Ops.{Op, put, add, need, move, Request, every, valid}
 
 -- byte k, and the 4-byte number that begins there, low byte first
@@ -12,8 +12,8 @@ abbrev pub number : List ℕ → ℕ → ℕ
 number b k = byte b k + 256 * byte b (k + 1) + 65536 * byte b (k + 2) + 16777216 * byte b (k + 3)
 
 -- The table by operation code, 0 to 4: does an operation use its second cell, and its name in ASCII
-abbrev pub usesSecond : List Bool
-usesSecond = false ∷ false ∷ false ∷ false ∷ true ∷ []
+abbrev pub uses_second : List Bool
+uses_second = false ∷ false ∷ false ∷ false ∷ true ∷ []
 
 abbrev pub names : List (List ℕ)
 names =
@@ -30,55 +30,55 @@ op_of code k j a =
     cond (eqb code 1) (put k a) (cond (eqb code 2) (add k a) (cond (eqb code 3) (need k a) (move k j a)))
 
 -- a code is 1 to 4, and the second cell is zero except where it is used
-abbrev pub codeRules : (code second : ℕ) → List Bool
-codeRules code j = leb 1 code ∷ leb code 4 ∷ cond (get_or usesSecond code false) true (eqb j 0) ∷ []
+abbrev pub code_rules : (code second : ℕ) → List Bool
+code_rules code j = leb 1 code ∷ leb code 4 ∷ cond (get_or uses_second code false) true (eqb j 0) ∷ []
 
 -- where operation k begins
-abbrev pub opPlace : ℕ → ℕ
-opPlace k = firstOp + opSize * k
+abbrev pub op_place : ℕ → ℕ
+op_place k = first_op + op_size * k
 
 -- operation k: code, cell, second cell, zero, then a 4-byte amount
-abbrev pub opIn : List ℕ → ℕ → Op
-opIn b k = op_of (byte b (opPlace k)) (byte b (opPlace k + 1)) (byte b (opPlace k + 2)) (number b (opPlace k + 4))
+abbrev pub op_within : List ℕ → ℕ → Op
+op_within b k = op_of (byte b (op_place k)) (byte b (op_place k + 1)) (byte b (op_place k + 2)) (number b (op_place k + 4))
 
 -- the first n operations from k on
-abbrev pub opsIn : List ℕ → ℕ → ℕ → List Op
-opsIn b k zero = []
-opsIn b k (suc n) = opIn b k ∷ opsIn b (suc k) n
+abbrev pub ops_within : List ℕ → ℕ → ℕ → List Op
+ops_within b k zero = []
+ops_within b k (suc n) = op_within b k ∷ ops_within b (suc k) n
 
 -- the request that the bytes name
-unfoldable pub requestIn : List ℕ → Request
-requestIn b = record { id = number b 0; class = byte b 4; ops = opsIn b 0 (byte b 5) }
+unfoldable pub request_in : List ℕ → Request
+request_in b = record { id = number b 0; class = byte b 4; ops = ops_within b 0 (byte b 5) }
 
 -- the eight bytes of an operation of the request, and of one past its number, which are all zero
-abbrev pub codedAt : List ℕ → ℕ → Bool
-codedAt b at = every (codeRules (byte b at) (byte b (at + 2))) && eqb (byte b (at + 3)) 0
+abbrev pub coded_at : List ℕ → ℕ → Bool
+coded_at b at = every (code_rules (byte b at) (byte b (at + 2))) && eqb (byte b (at + 3)) 0
 
-abbrev pub zeroAt : List ℕ → ℕ → ℕ → Bool
-zeroAt b at zero = true
-zeroAt b at (suc n) = eqb (byte b at) 0 && zeroAt b (suc at) n
+abbrev pub zero_at : List ℕ → ℕ → ℕ → Bool
+zero_at b at zero = true
+zero_at b at (suc n) = eqb (byte b at) 0 && zero_at b (suc at) n
 
-abbrev pub opAtOk : List ℕ → ℕ → Bool
-opAtOk b k = cond (ltb k (byte b 5)) (codedAt b (opPlace k)) (zeroAt b (opPlace k) opSize)
+abbrev pub op_at_ok : List ℕ → ℕ → Bool
+op_at_ok b k = cond (ltb k (byte b 5)) (coded_at b (op_place k)) (zero_at b (op_place k) op_size)
 
 -- operations k to 6
-abbrev pub opsOkFrom : List ℕ → ℕ → ℕ → Bool
-opsOkFrom b k zero = true
-opsOkFrom b k (suc n) = opAtOk b k && opsOkFrom b (suc k) n
+abbrev pub ops_ok_from : List ℕ → ℕ → ℕ → Bool
+ops_ok_from b k zero = true
+ops_ok_from b k (suc n) = op_at_ok b k && ops_ok_from b (suc k) n
 
 -- the rules of the record: 64 bytes, zero where it says so, and a valid request
-abbrev pub recordRules : List ℕ → List Bool
-recordRules b =
-    eqb (length b) recordSize
+abbrev pub record_rules : List ℕ → List Bool
+record_rules b =
+    eqb (length b) record_size
     ∷ every (map (λ x. ltb x 256) b)
-    ∷ zeroAt b 6 2
-    ∷ opsOkFrom b 0 mostOps
-    ∷ valid (requestIn b)
+    ∷ zero_at b 6 2
+    ∷ ops_ok_from b 0 most_ops
+    ∷ valid (request_in b)
     ∷ []
 
-unfoldable pub isRecord : List ℕ → Bool
-isRecord b = every (recordRules b)
+unfoldable pub is_record : List ℕ → Bool
+is_record b = every (record_rules b)
 
 -- the request of a record, or nothing
 unfoldable pub request : List ℕ → Option Request
-request b = cond (isRecord b) (some (requestIn b)) none
+request b = cond (is_record b) (some (request_in b)) none

@@ -7,7 +7,7 @@ use Rattle.plain.specs.Steps.{Answer}
 use Rattle.plain.specs.Site.{Call}
 use Rattle.store.specs.Store.{Store, Shaped}
 use Rattle.store.specs.Calls.{State, RightCells, Called, Started}
-use Rattle.promises.specs.Runs.{Happens, onCells, Run, start, more, wrong, FromFresh}
+use Rattle.promises.specs.Runs.{Happens, on_cells, Run, start, more, wrong, FromFresh}
 
 -- a call of the contract, between sites of their declared types
 pub happens : {x y : State} {k : Call} {a : Answer} → Shaped x.site → Called x k y a → Shaped y.site → Happens x k y a
@@ -24,11 +24,11 @@ module _ {x y : State} {k : Call} {a : Answer} (e : Happens x k y a) {h : List C
   pub goes_on : {z : State} → Run z h x → Run z (k ∷ h) y
   goes_on r = more k y a r e
 
-  pub goes-on-from-fresh : FromFresh h x → FromFresh (k ∷ h) y
-  goes-on-from-fresh f = record { base = f.base; wrk = f.wrk; begin = f.begin; started = f.started; run = goes_on f.run }
+  pub goes_on_from_fresh : FromFresh h x → FromFresh (k ∷ h) y
+  goes_on_from_fresh f = record { base = f.base; wrk = f.wrk; begin = f.begin; started = f.started; run = goes_on f.run }
 
   -- a run that led to its site, where the cells were wrong
-  pub goes-on-beside : {z w : State} → w.site ≡ x.site → (RightCells x → ⊥) → Run z h w → Run z h (onCells y w.committed w.working)
-  goes-on-beside p n r =
+  pub goes_on_beside : {z w : State} → w.site ≡ x.site → (RightCells x → ⊥) → Run z h w → Run z h (on_cells y w.committed w.working)
+  goes_on_beside p n r =
       wrong x.committed x.working k y a r n
       (subst (λ (s : Store). Happens (record { site = s; committed = x.committed; working = x.working }) k y a) (sym p) e)

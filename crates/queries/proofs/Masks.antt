@@ -9,28 +9,28 @@ use lib.ListN.{get_or, set}
 use lib.Seq.{get_or-set_same, get_or-set_other}
 use Rattle.plain.specs.Site.{bits, named}
 use Rattle.usedmap.specs.Flags.{bits_of}
-use Rattle.usedmap.proofs.Bits.{bits-length, bits-get}
+use Rattle.usedmap.proofs.Bits.{bits_length, bits_get}
 use Rattle.queries.specs.Table.{Grown, Shrunk}
 
-bits-same : (k n : ℕ) → bits k n ≡ bits_of k n
+bits_same : (k n : ℕ) → bits k n ≡ bits_of k n
 unfolding bits bits_of
-bits-same zero n = refl
-bits-same (suc k) n = ap (λ (l : List Bool). eqb (n % 2) 1 ∷ l) (bits-same k (n / 2))
+bits_same zero n = refl
+bits_same (suc k) n = ap (λ (l : List Bool). eqb (n % 2) 1 ∷ l) (bits_same k (n / 2))
 
-named-is : (m c : ℕ) → named m c ≡ get_or (bits_of 16 m) c false
+named_is : (m c : ℕ) → named m c ≡ get_or (bits_of 16 m) c false
 unfolding named
-named-is m c = ap (λ (l : List Bool). get_or l c false) (bits-same 16 m)
+named_is m c = ap (λ (l : List Bool). get_or l c false) (bits_same 16 m)
 
-pub named-digit : (m c : ℕ) → c < 16 → named m c ≡ eqb (m / 2 ^ c % 2) 1
-named-digit m c l = named-is m c ∙ bits-get 16 m c l
+pub named_digit : (m c : ℕ) → c < 16 → named m c ≡ eqb (m / 2 ^ c % 2) 1
+named_digit m c l = named_is m c ∙ bits_get 16 m c l
 
 module _ (m c n : ℕ) (l : c < 16) (b : Bool) (e : bits_of 16 n ≡ set (bits_of 16 m) c b) where
   own : named n c ≡ b
-  own = named-is n c ∙ ap (λ (l : List Bool). get_or l c false) e ∙ get_or-set_same (bits_of 16 m) c b false (omega (arith, bits-length 16 m))
+  own = named_is n c ∙ ap (λ (l : List Bool). get_or l c false) e ∙ get_or-set_same (bits_of 16 m) c b false (omega (arith, bits_length 16 m))
 
   others : (d : ℕ) → d < 16 → (d ≡ c → ⊥) → named n d ≡ named m d
   others d k ne =
-      named-is n d ∙ ap (λ (l : List Bool). get_or l d false) e ∙ get_or-set_other (bits_of 16 m) c d b false ne ∙ sym (named-is m d)
+      named_is n d ∙ ap (λ (l : List Bool). get_or l d false) e ∙ get_or-set_other (bits_of 16 m) c d b false ne ∙ sym (named_is m d)
 
 pub grown : (m c n : ℕ) → c < 16 → bits_of 16 n ≡ set (bits_of 16 m) c true → Grown m c n
 grown m c n l e = record { own = own m c n l true e; others = others m c n l true e }

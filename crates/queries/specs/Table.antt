@@ -12,12 +12,12 @@ pub record Shrunk (m c n : ℕ) : Type 0 where
   pub others : (d : ℕ) → d < 16 → (d ≡ c → ⊥) → named n d ≡ named m d
 
 -- the query at index p of a table; past its end a free one
-abbrev pub freeQuery : Query
-freeQuery = record { classes = 0; begun = 0 }
+abbrev pub free_query : Query
+free_query = record { classes = 0; begun = 0 }
 
-abbrev pub isFreeAt : List Query → ℕ → Bool
-isFreeAt table p = eqb (get_or table p freeQuery).classes 0
+abbrev pub is_free_at : List Query → ℕ → Bool
+is_free_at table p = eqb (get_or table p free_query).classes 0
 
 -- the lowest index that is free, 8 if none is
-unfoldable pub lowestFree : List Query → ℕ
-lowestFree table = lowest (isFreeAt table) 0 8
+unfoldable pub lowest_free_place : List Query → ℕ
+lowest_free_place table = lowest (is_free_at table) 0 8

@@ -2,7 +2,7 @@
 // free, and all zero, where no class is left.
 ghost use Rattle.std.specs.Prelude.{◌≡◌, cond, eqb, ◌<◌};
 ghost use Rattle.plain.specs.Site.{named};
-ghost use Rattle.queries.specs.Table.{Grown, Shrunk, lowestFree};
+ghost use Rattle.queries.specs.Table.{Grown, Shrunk, lowest_free_place};
 
 #[repr(C)]
 #[derive(Drop)]
@@ -66,7 +66,7 @@ pub fn without(q: Query, c: u32) -> Query
 
 // The lowest index of the table that is free, 8 where none is.
 pub fn lowest_free(table: [Query; 8]) -> usize
-    ensures { result ≡ lowestFree table }
+    ensures { result ≡ lowest_free_place table }
 {
     let mut p = 0;
     while p < 8 {

@@ -1,8 +1,8 @@
 // What the programs of the text form say of a record that is refused. That what is written comes out on standard error is left to the system.
 ghost use Rattle.std.specs.Prelude.{◌≤◌, ◌≡◌, length, take};
 ghost use Rattle.io.specs.Counts.{IsPrefixLen};
-ghost use Rattle.text.specs.Calls.{refused, refusedAt, answer_of};
-ghost use Rattle.refusal.specs.Said.{refusalStart, refusalLine};
+ghost use Rattle.text.specs.Calls.{refused, refused_at, answer_of};
+ghost use Rattle.refusal.specs.Said.{refusal_start, refusal_line};
 
 use decimal::{put, put_number};
 use libc::STDERR_FILENO;
@@ -21,7 +21,7 @@ pub fn report(place: u64, outcome: Outcome) {
 // Puts the line that is said of the record at a place, and answers its length: 0 where the record is not refused.
 fn put_refusal(to: &mut [u8; LINE], place: u64, outcome: Outcome) -> usize
     ensures prefix_len { IsPrefixLen result to.new }
-    ensures to_after { take result to.new ≡ refusalLine place (answer_of outcome) }
+    ensures to_after { take result to.new ≡ refusal_line place (answer_of outcome) }
 {
     match outcome {
         Outcome::Length(_) => 0,
@@ -35,7 +35,7 @@ fn put_refusal(to: &mut [u8; LINE], place: u64, outcome: Outcome) -> usize
 fn put_refused(to: &mut [u8], place: u64, number: u64) -> usize
     requires { 87 ≤ length to.old }
     ensures upper_bound { result ≤ 87 }
-    ensures to_after { take result to.new ≡ refusalLine place (refused number) }
+    ensures to_after { take result to.new ≡ refusal_line place (refused number) }
 {
     let at = put_start(to, place, number);
     put(to, at, b"\n")
@@ -45,7 +45,7 @@ fn put_refused(to: &mut [u8], place: u64, number: u64) -> usize
 fn put_refused_at(to: &mut [u8], place: u64, number: u64, line: u64) -> usize
     requires { 87 ≤ length to.old }
     ensures upper_bound { result ≤ 87 }
-    ensures to_after { take result to.new ≡ refusalLine place (refusedAt number line) }
+    ensures to_after { take result to.new ≡ refusal_line place (refused_at number line) }
 {
     let at = put_start(to, place, number);
     let named = put(to, at, b" at line ");
@@ -57,7 +57,7 @@ fn put_refused_at(to: &mut [u8], place: u64, number: u64, line: u64) -> usize
 fn put_start(to: &mut [u8], place: u64, number: u64) -> usize
     requires { 57 ≤ length to.old }
     ensures upper_bound { result ≤ 57 }
-    ensures to_after { take result to.new ≡ refusalStart place number }
+    ensures to_after { take result to.new ≡ refusal_start place number }
 {
     let named = put(to, 0, b"record ");
     let placed = put_number(to, named, place);

@@ -2,7 +2,7 @@
 // that what is written comes out is left to the system.
 ghost use Rattle.std.specs.Prelude.{◌≡◌, ◌+◌, ◌≤◌, length, take};
 ghost use Rattle.text.specs.Calls.{answer_of};
-ghost use Rattle.shown.specs.Showing.{recordsOf, ShowsOne, Shows};
+ghost use Rattle.shown.specs.Showing.{records_of, ShowsOne, Shows};
 
 use input::{fill, whole};
 use libc::{STDERR_FILENO, STDOUT_FILENO};
@@ -52,7 +52,7 @@ struct Block {
 fn show_block(input: &[u8], first: u64, text: &mut [u8]) -> Block
     requires input_len_bound { length input.now ≤ 24576 }
     requires text_len { length text.old ≡ 65536 }
-    ensures shows { Shows (recordsOf input.now) first (take result.len text.new) result.place (answer_of result.outcome) }
+    ensures shows { Shows (records_of input.now) first (take result.len text.new) result.place (answer_of result.outcome) }
     ensures len_bound { result.len ≤ 65536 }
 {
     let n = input.len();

@@ -13,43 +13,43 @@ use Rattle.site.specs.declared.Site.{Site}
 use Rattle.site.specs.Held.{store}
 use Rattle.slots.specs.declared.Slot.{Slot}
 use Rattle.slots.specs.Meaning.{slot_at}
-use Rattle.store.specs.Store.{Shaped, queryAt}
+use Rattle.store.specs.Store.{Shaped, query_at}
 use Rattle.queries.specs.declared.Query.{Query}
 use Rattle.queries.specs.contracts.Query as M
 use Rattle.site.specs.contracts.Site as T
 use Rattle.slots.specs.contracts.Slot as L
-use Rattle.slots.proofs.Shape.{seven, id-fits}
+use Rattle.slots.proofs.Shape.{seven, id_fits}
 
 module _ (P : Slot → Type 0) (say : (v : Slot) (vs : List Val) → Is (Declared.row L.the_type) v vs → P v) where
   -- what the type says of one slot it says of each
-  each-slot : (l : List Slot) (us : List Val) → shadow (each (L.the_field).row.Denot (L.the_field).row.own_val (map (L.the_field).into l) us)
+  each_slot : (l : List Slot) (us : List Val) → shadow (each (L.the_field).row.Denot (L.the_field).row.own_val (map (L.the_field).into l) us)
       → (i : ℕ) → i < length l → P (slot_at l i)
-  each-slot [] us g i h = absurd (omega arith)
-  each-slot (v ∷ l) [] g i h = absurd g
-  each-slot (v ∷ l) (u ∷ us) g zero h = say v _ g.0
-  each-slot (v ∷ l) (u ∷ us) g (suc i) h = each-slot l us g.1 i (omega arith)
+  each_slot [] us g i h = absurd (omega arith)
+  each_slot (v ∷ l) [] g i h = absurd g
+  each_slot (v ∷ l) (u ∷ us) g zero h = say v _ g.0
+  each_slot (v ∷ l) (u ∷ us) g (suc i) h = each_slot l us g.1 i (omega arith)
 
 -- and of each query; what stands past the end is free
-each-mask : (l : List Query) (us : List Val) → shadow (each (M.the_field).row.Denot (M.the_field).row.own_val (map (M.the_field).into l) us)
-    → (p : ℕ) → (queryAt l p).classes < 2 ^ 16
-each-mask [] us g p = omega arith
-each-mask (v ∷ l) [] g p = absurd g
-each-mask (v ∷ l) (u ∷ us) g zero = g.0.1.1.0.1
-each-mask (v ∷ l) (u ∷ us) g (suc p) = each-mask l us g.1 p
+each_mask : (l : List Query) (us : List Val) → shadow (each (M.the_field).row.Denot (M.the_field).row.own_val (map (M.the_field).into l) us)
+    → (p : ℕ) → (query_at l p).classes < 2 ^ 16
+each_mask [] us g p = omega arith
+each_mask (v ∷ l) [] g p = absurd g
+each_mask (v ∷ l) (u ∷ us) g zero = g.0.1.1.0.1
+each_mask (v ∷ l) (u ∷ us) g (suc p) = each_mask l us g.1 p
 
 pub shaped : (s : Site) (vs : List Val) → Is (Declared.row T.the_type) s vs → Shaped (store s)
 shaped s vs g =
     let n : length s.slots ≡ 128 = sym (length-map s.slots _) ∙ g.1.1.0.1.0.1 in
     record {
       slots = n;
-      ops = λ i l. each-slot (λ v. length v.ops ≡ 7) seven s.slots _ g.1.1.0.1.1 i (omega arith);
-      ids = λ i l. each-slot (λ v. v.id < 2 ^ 32) id-fits s.slots _ g.1.1.0.1.1 i (omega arith);
+      ops = λ i l. each_slot (λ v. length v.ops ≡ 7) seven s.slots _ g.1.1.0.1.1 i (omega arith);
+      ids = λ i l. each_slot (λ v. v.id < 2 ^ 32) id_fits s.slots _ g.1.1.0.1.1 i (omega arith);
       queue = sym (length-map s.queue _) ∙ g.1.1.1.0.1.0.1;
       lens = sym (length-map s.lens _) ∙ g.1.1.1.1.0.1.0.1;
       low = g.1.1.1.1.1.0.1;
       high = g.1.1.1.1.1.1.0.1;
       kept = sym (length-map s.kept _) ∙ g.1.1.1.1.1.1.1.1.1.0.1.0.1;
       queries = sym (length-map s.queries _) ∙ g.1.1.1.1.1.1.1.1.1.1.0.1.0.1;
-      masks = each-mask s.queries _ g.1.1.1.1.1.1.1.1.1.1.0.1.1;
+      masks = each_mask s.queries _ g.1.1.1.1.1.1.1.1.1.1.0.1.1;
       sums = sym (length-map s.sums _) ∙ g.1.1.1.1.1.1.1.1.1.1.1.1.0.1.0.1;
     }

@@ -2,14 +2,14 @@
 use Rattle.std.specs.Prelude.{ℕ, ◌+◌, ◌<◌, ◌≤◌, ◌≡◌, true, List, set}
 use Rattle.plain.specs.Steps as K
 use Rattle.plain.specs.Site.{Call}
-use Rattle.usedmap.specs.Flags.{usedOf}
-use Rattle.queries.specs.Table.{lowestFree}
+use Rattle.usedmap.specs.Flags.{used_of}
+use Rattle.queries.specs.Table.{lowest_free_place}
 use Rattle.slots.specs.declared.Slot.{Slot}
 use Rattle.slots.specs.Meaning.{slot_at}
 use Rattle.store.specs.Store.{Store}
 use Rattle.store.specs.Meaning.{places, len_of}
 use Rattle.store.specs.Sound.{times, Laid}
-use Rattle.store.specs.Steps.{placed, headSlot}
+use Rattle.store.specs.Steps.{placed, head_slot}
 use Rattle.store.specs.Calls.{State, RightCells, SoundState, Called}
 use Rattle.site.specs.declared.Site.{Site}
 use Rattle.site.specs.declared.Answer.{Answer}
@@ -44,14 +44,14 @@ answer_of (a.Executed id) cells = K.executed id
 answer_of (a.Committed id number mark slot backs) cells = K.committed id number mark slot backs
 answer_of (a.Waiting id w back) cells = K.waiting id w back
 answer_of (a.Value n) cells = K.value n
-answer_of (a.ToDo w backs) cells = K.toDo w backs
+answer_of (a.ToDo w backs) cells = K.to_do w backs
 answer_of (a.Unconfirmed backs) cells = K.unconfirmed backs
 answer_of (a.Begun place) cells = K.begun place
 answer_of (a.Entry place) cells = K.entry place cells
 
 -- what every call begins with: 0 where the cells are right and the site sound; any other number is what every call is refused with
 pub record Door (x : State) (no : ℕ) : Type 0 where
-  pub open-to : no ≡ 0 → RightCells x × SoundState x
+  pub open_to : no ≡ 0 → RightCells x × SoundState x
   pub shut : (no ≡ 0 → ⊥) → (k : Call) → Called x k x (K.refused no)
 
 -- what a call is judged by before it acts: any number but 0 is what it is refused with; with 0 it may act
@@ -68,7 +68,7 @@ pub record SlotOf (slots : List Slot) (id i : ℕ) : Type 0 where
 -- slot i takes v and stands at the end of its class's queue
 pub record Placed (s : Site) (i : ℕ) (v : Slot) (r : Site) : Type 0 where
   pub is : store r ≡ placed (store s) v.class i v r.low r.high
-  pub used : usedOf r.low r.high ≡ set (usedOf s.low s.high) i true
+  pub used : used_of r.low r.high ≡ set (used_of s.low s.high) i true
 
 -- class c has a head that is an entry, or not executed
 pub record MayWork (x : State) (c : ℕ) : Type 0 where
@@ -76,7 +76,7 @@ pub record MayWork (x : State) (c : ℕ) : Type 0 where
   pub sound : SoundState x
   pub class : c < 16
   pub some : 0 < len_of x.site c
-  pub unfinished : headSlot x.site c < 128 → (slot_at x.site.slots (headSlot x.site c)).done ≡ (slot_at x.site.slots (headSlot x.site c)).count → ⊥
+  pub unfinished : head_slot x.site c < 128 → (slot_at x.site.slots (head_slot x.site c)).done ≡ (slot_at x.site.slots (head_slot x.site c)).count → ⊥
 
 -- what a head answers that did an operation and has slot i: how many are done, that it is executed, or its commit
 pub record Worked (v : Slot) (i : ℕ) (r : Answer) : Type 0 where
@@ -89,7 +89,7 @@ pub record MayQuery (x : State) (mask : ℕ) : Type 0 where
   pub right : RightCells x
   pub sound : SoundState x
   pub some : mask ≡ 0 → ⊥
-  pub free : lowestFree x.site.queries < 8
+  pub free : lowest_free_place x.site.queries < 8
   pub more : x.site.begun < 4294967295
 
 -- slot i stands in class c's queue
@@ -116,4 +116,4 @@ pub record MayConfirm (x : State) (id number i c : ℕ) : Type 0 where
 
 -- the request in slot i is the executed head of its class
 abbrev pub HeadDone : Store → ℕ → Type 0
-HeadDone s i = (headSlot s (slot_at s.slots i).class ≡ i) × ((slot_at s.slots i).done ≡ (slot_at s.slots i).count)
+HeadDone s i = (head_slot s (slot_at s.slots i).class ≡ i) × ((slot_at s.slots i).done ≡ (slot_at s.slots i).count)

@@ -2,7 +2,7 @@
 ghost use Rattle.std.specs.Prelude.{[], ◌≡◌, ◌+◌, ◌<◌, ◌≤◌};
 ghost use Rattle.plain.specs.Site.{confirm};
 ghost use Rattle.slots.specs.Meaning.{slot_at};
-ghost use Rattle.store.specs.Steps.{Backable, PutBack, PlaceOf, FirstWaiting, Forward, numberedStore};
+ghost use Rattle.store.specs.Steps.{Backable, PutBack, PlaceOf, FirstWaiting, Forward, numbered_store};
 ghost use Rattle.store.specs.Calls.{Did, Called};
 ghost use Rattle.plain.specs.Decides.{Decides};
 ghost use Rattle.site.specs.Held.{store, state_of, answer_of, Judged, MayConfirm, Confirmable, HeadDone, InQueue};
@@ -53,7 +53,7 @@ impl Site {
     // Slot i has the next number, its id is kept under it, and one confirmation more is counted.
     fn numbered(mut self, i: usize) -> Self
         requires { (i < 128) × (self.confirmations < 4294967295) }
-        ensures { store result ≡ numberedStore (store self) i (self.confirmations + 1) }
+        ensures { store result ≡ numbered_store (store self) i (self.confirmations + 1) }
     {
         let n = self.confirmations + 1;
         self.confirmations = n;

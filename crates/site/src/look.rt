@@ -3,7 +3,7 @@ ghost use Rattle.std.specs.Prelude.{[], ◌≡◌, ◌<◌};
 ghost use Rattle.plain.specs.Queue.{owed};
 ghost use Rattle.plain.specs.Site.{read, look};
 ghost use Rattle.slots.specs.Meaning.{slot_at};
-ghost use Rattle.store.specs.Meaning.{queueOf};
+ghost use Rattle.store.specs.Meaning.{queue_of};
 ghost use Rattle.store.specs.Sound.{Laid};
 ghost use Rattle.store.specs.Steps.{Countable, KeptW, WaitingLast};
 ghost use Rattle.store.specs.Calls.{Called};
@@ -43,7 +43,7 @@ impl Site {
     // The operations still to do by slot s and by all before it in the queue of class c; an entry of a query counts 1.
     fn to_do(self, c: usize, s: usize) -> u32
         requires { Countable (store self) c × (s < 128) × (0 < (slot_at self.slots s).id) }
-        ensures { result ≡ owed (slot_at self.slots s).id (queueOf (store self) c) }
+        ensures { result ≡ owed (slot_at self.slots s).id (queue_of (store self) c) }
     {
         let len = self.lens[c] as usize;
         let mut w: u32 = 0;

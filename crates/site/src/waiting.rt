@@ -1,10 +1,10 @@
 // Where the waiting requests of a queue begin: behind the confirmed and the entries of queries. And a request put back.
 ghost use Rattle.std.specs.Prelude.{◌≡◌, ◌+◌, ◌<◌, ◌≤◌};
-ghost use Rattle.plain.specs.Sizes.{wideWord};
-ghost use Rattle.store.specs.Store.{placeCount};
+ghost use Rattle.plain.specs.Sizes.{wide_word};
+ghost use Rattle.store.specs.Store.{place_count};
 ghost use Rattle.store.specs.Sound.{Laid};
 ghost use Rattle.store.specs.Checks.{nth};
-ghost use Rattle.store.specs.Steps.{WaitsFrom, FirstWaiting, FirstsWaiting, asPutBack};
+ghost use Rattle.store.specs.Steps.{WaitsFrom, FirstWaiting, FirstsWaiting, as_put_back};
 ghost use Rattle.site.specs.Held.{store};
 
 use crate::{CLASS_PLACES, SLOT_LIMIT, SLOTS, Site};
@@ -13,7 +13,7 @@ use slots::Slot;
 
 // The place of the first waiting request in the queue that begins at a, its length where none waits.
 fn waits_from<'a>(numbers: &'a [u32; SLOTS], queue: &'a [u8; PLACES], a: usize, len: usize) -> usize
-    requires { a + len ≤ placeCount }
+    requires { a + len ≤ place_count }
     ensures { WaitsFrom (nth numbers.now) queue.now a len result }
 {
     let mut p = 0;
@@ -31,8 +31,8 @@ fn waits_from<'a>(numbers: &'a [u32; SLOTS], queue: &'a [u8; PLACES], a: usize, 
 
 // What a request is when it was put back: nothing done, not declined, put back once more.
 pub(crate) fn backed(mut v: Slot) -> Slot
-    requires { v.backs + 1 < wideWord }
-    ensures { result ≡ asPutBack v }
+    requires { v.backs + 1 < wide_word }
+    ensures { result ≡ as_put_back v }
 {
     v.done = 0;
     v.mark = 0;

@@ -1,7 +1,7 @@
 // Work: the head of a class does its next operation, and commits when it has done its last and is confirmed; a head that is an entry of a query is read.
 ghost use Rattle.std.specs.Prelude.{◌≡◌, ◌<◌, ◌≤◌};
 ghost use Rattle.plain.specs.Site.{work};
-ghost use Rattle.store.specs.Steps.{Commitable, CommitDone, oneLess};
+ghost use Rattle.store.specs.Steps.{Commitable, CommitDone, less_one};
 ghost use Rattle.plain.specs.Decides.{Decides};
 ghost use Rattle.store.specs.Meaning.{cells_of};
 ghost use Rattle.store.specs.Calls.{Did, Called};
@@ -47,7 +47,7 @@ fn worked(v: Slot, s: u8) -> Answer
 
 // The sum of a class after a work call of a head with this number: one less, not below 0, where it is confirmed.
 fn one_less(sum: u16, number: u32) -> u16
-    ensures { result ≡ oneLess sum number }
+    ensures { result ≡ less_one sum number }
 {
     if number == 0 {
         return sum;

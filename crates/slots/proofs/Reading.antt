@@ -10,25 +10,25 @@ use lib.ListN.{length, get_or, take, set}
 use lib.Seq.{get_or-set_same, get_or-set_other}
 use borrow.Author.Count.{below_more}
 use borrow.Author.Tests.{eqb-true, eqb-false, eq-eqb, ne_eqb, ltb-true, ltb-false, lt-ltb}
-use Rattle.plain.specs.Sizes.{mostOps, recordSize, opSize}
+use Rattle.plain.specs.Sizes.{most_ops, record_size, op_size}
 use Rattle.plain.specs.Ops as P
 use Rattle.plain.specs.Record as R
-use Rattle.plain.specs.Record.{byte, number, opPlace, isRecord}
+use Rattle.plain.specs.Record.{byte, number, op_place, is_record}
 use Rattle.plain.specs.Decides.{Decides}
-use Rattle.plain.proofs.Tests.{by-test, no, all_true, every_true}
-use Rattle.plain.proofs.Deciding.{decided, holds, decides-true, decides-as, decides_eq, decides-both}
-use Rattle.plain.proofs.Items.{is-valid}
+use Rattle.plain.proofs.Tests.{by_test, no, all_true, every_true}
+use Rattle.plain.proofs.Deciding.{decided, holds, decides_true, decides_as, decides_eq, decides_both}
+use Rattle.plain.proofs.Items.{is_valid}
 use Rattle.cells.specs.declared.Op.{Op}
-use Rattle.cells.specs.Ops.{noOp, op_of, Coded}
+use Rattle.cells.specs.Ops.{no_op, op_of, Coded}
 use Rattle.slots.specs.declared.Slot.{Slot}
-use Rattle.slots.specs.Meaning.{requestOf}
-use Rattle.slots.specs.Rules.{Holds, ReadInto, SpareZero, opIn, opsIn, slotIn}
-use Rattle.slots.proofs.Records.{all_from, map-of-all, all-ops, zeros-from, held}
+use Rattle.slots.specs.Meaning.{request_of}
+use Rattle.slots.specs.Rules.{Holds, ReadInto, SpareZero, op_within, ops_within, slot_within}
+use Rattle.slots.proofs.Records.{all_from, map_of_all, all_ops, zeros_from, held}
 
 -- PLACES FROM k ON
 at_or_after : (Q : ℕ → Type 0) (k i : ℕ) → Q k → (suc k ≤ i → Q i) → k ≤ i → Q i
 at_or_after Q k i q h l =
-    by-test (eqb i k) (λ y. rw (eqb-true i k y) q) (λ f. let ne : i ≡ k → ⊥ = eqb-false i k f in h (omega arith))
+    by_test (eqb i k) (λ y. rw (eqb-true i k y) q) (λ f. let ne : i ≡ k → ⊥ = eqb-false i k f in h (omega arith))
 
 four : (Q : ℕ → Type 0) (k : ℕ) → Q k → Q (k + 1) → Q (k + 2) → Q (k + 3) → (i : ℕ) → k ≤ i → i < k + 4 → Q i
 four Q k a b c d i l m =
@@ -38,8 +38,8 @@ four Q k a b c d i l m =
     (λ l. at_or_after Q (k + 3) i d (λ l. absurd (omega arith)) (omega arith)) (omega arith)) (omega arith)) l
 
 -- five tests that hold
-every-five : {p q r s t : Bool} → p ≡ true → q ≡ true → r ≡ true → s ≡ true → t ≡ true → P.every (p ∷ q ∷ r ∷ s ∷ t ∷ []) ≡ true
-every-five p q r s t = rw (p, q, r, s, t)
+every_five : {p q r s t : Bool} → p ≡ true → q ≡ true → r ≡ true → s ≡ true → t ≡ true → P.every (p ∷ q ∷ r ∷ s ∷ t ∷ []) ≡ true
+every_five p q r s t = rw (p, q, r, s, t)
 
 -- each is a byte
 abbrev pub Bytes : List ℕ → Type 0
@@ -48,60 +48,60 @@ Bytes b = (i : ℕ) → i < length b → byte b i < 256
 -- a test of each, n of them
 module _ (p : ℕ → Bool) (all : ℕ → ℕ → Bool) (none : (k : ℕ) → all k 0 ≡ true)
     (more : (k n : ℕ) → all k (suc n) ≡ (p k && all (suc k) n)) where
-  decides-from : (Q : ℕ → Type 0) → ((k : ℕ) → Decides (p k) (Q k)) → (k n : ℕ) → Decides (all k n) ((i : ℕ) → k ≤ i → i < k + n → Q i)
-  decides-from Q t k zero = rw (none k) (decides-true (λ i l m. absurd (omega arith)))
-  decides-from Q t k (suc n) =
+  decides_from : (Q : ℕ → Type 0) → ((k : ℕ) → Decides (p k) (Q k)) → (k n : ℕ) → Decides (all k n) ((i : ℕ) → k ≤ i → i < k + n → Q i)
+  decides_from Q t k zero = rw (none k) (decides_true (λ i l m. absurd (omega arith)))
+  decides_from Q t k (suc n) =
       rw (more k n)
-      (decides-as
+      (decides_as
       (λ h i l m. at_or_after Q k i h.0 (λ s. h.1 i s (omega arith)) l)
       (λ h. (h k (omega arith) (omega arith), λ i l m. h i (omega arith) (omega arith)))
-      (decides-both (t k) (decides-from Q t (suc k) n)))
+      (decides_both (t k) (decides_from Q t (suc k) n)))
 
 module _ (b : List ℕ) where
-  decides-zeros : (at n : ℕ) → Decides (R.zeroAt b at n) ((i : ℕ) → at ≤ i → i < at + n → byte b i ≡ 0)
-  decides-zeros =
-      decides-from (λ i. eqb (byte b i) 0) (R.zeroAt b) (λ k. refl) (λ k n. refl) (λ i. byte b i ≡ 0) (λ i. decides_eq (byte b i) 0)
+  decides_zeros : (at n : ℕ) → Decides (R.zero_at b at n) ((i : ℕ) → at ≤ i → i < at + n → byte b i ≡ 0)
+  decides_zeros =
+      decides_from (λ i. eqb (byte b i) 0) (R.zero_at b) (λ k. refl) (λ k n. refl) (λ i. byte b i ≡ 0) (λ i. decides_eq (byte b i) 0)
 
   -- THE OPERATIONS
-  pub ops-long : (k n : ℕ) → length (opsIn b k n) ≡ n
-  ops-long k zero = refl
-  ops-long k (suc n) = ap suc (ops-long (suc k) n)
+  pub ops_long : (k n : ℕ) → length (ops_within b k n) ≡ n
+  ops_long k zero = refl
+  ops_long k (suc n) = ap suc (ops_long (suc k) n)
 
-  op-from : (k n j : ℕ) → j < n → get_or (opsIn b k n) j noOp ≡ opIn b (k + j)
-  op-from k zero j l = absurd (omega arith)
-  op-from k (suc n) zero l = let e : k ≡ k + 0 = omega arith in ap (opIn b) e
-  op-from k (suc n) (suc j) l =
-      let e : suc k + j ≡ k + suc j = omega arith in op-from (suc k) n j (omega arith) ∙ ap (opIn b) e
+  op_from : (k n j : ℕ) → j < n → get_or (ops_within b k n) j no_op ≡ op_within b (k + j)
+  op_from k zero j l = absurd (omega arith)
+  op_from k (suc n) zero l = let e : k ≡ k + 0 = omega arith in ap (op_within b) e
+  op_from k (suc n) (suc j) l =
+      let e : suc k + j ≡ k + suc j = omega arith in op_from (suc k) n j (omega arith) ∙ ap (op_within b) e
 
-  pub op-in : (k : ℕ) → k < mostOps → get_or (opsIn b 0 mostOps) k noOp ≡ opIn b k
-  op-in k l = let e : 0 + k ≡ k = omega arith in op-from 0 mostOps k l ∙ ap (opIn b) e
+  pub op_in_lem : (k : ℕ) → k < most_ops → get_or (ops_within b 0 most_ops) k no_op ≡ op_within b k
+  op_in_lem k l = let e : 0 + k ≡ k = omega arith in op_from 0 most_ops k l ∙ ap (op_within b) e
 
   -- one more is stored
-  pub stored : (ops : List Op) (k : ℕ) (o : Op) → k < length ops → o ≡ opIn b k → ((j : ℕ) → j < k → get_or ops j noOp ≡ opIn b j)
-      → (j : ℕ) → j < k + 1 → get_or (set ops k o) j noOp ≡ opIn b j
+  pub stored : (ops : List Op) (k : ℕ) (o : Op) → k < length ops → o ≡ op_within b k → ((j : ℕ) → j < k → get_or ops j no_op ≡ op_within b j)
+      → (j : ℕ) → j < k + 1 → get_or (set ops k o) j no_op ≡ op_within b j
   stored ops k o l e h =
-      below_more (λ j. get_or (set ops k o) j noOp ≡ opIn b j) k
-      (λ j m. get_or-set_other ops k j o noOp (λ q. omega arith) ∙ h j m)
-      (get_or-set_same ops k o noOp l ∙ e)
+      below_more (λ j. get_or (set ops k o) j no_op ≡ op_within b j) k
+      (λ j m. get_or-set_other ops k j o no_op (λ q. omega arith) ∙ h j m)
+      (get_or-set_same ops k o no_op l ∙ e)
 
-  same-ops : (k n m : ℕ) → n ≤ m → map op_of (take n (opsIn b k m)) ≡ R.opsIn b k n
-  same-ops k zero m l = refl
-  same-ops k (suc n) zero l = absurd (omega arith)
-  same-ops k (suc n) (suc m) l = rw (same-ops (suc k) n m (omega arith))
+  same_ops : (k n m : ℕ) → n ≤ m → map op_of (take n (ops_within b k m)) ≡ R.ops_within b k n
+  same_ops k zero m l = refl
+  same_ops k (suc n) zero l = absurd (omega arith)
+  same_ops k (suc n) (suc m) l = rw (same_ops (suc k) n m (omega arith))
 
-  plain-long : (k n : ℕ) → length (R.opsIn b k n) ≡ n
-  plain-long k zero = refl
-  plain-long k (suc n) = ap suc (plain-long (suc k) n)
+  plain_long : (k n : ℕ) → length (R.ops_within b k n) ≡ n
+  plain_long k zero = refl
+  plain_long k (suc n) = ap suc (plain_long (suc k) n)
 
   -- what the bytes of operation k have to be
   pub record Placed (k : ℕ) : Type 0 where
-    pub spare : byte b (opPlace k + 3) ≡ 0
-    pub within : k < byte b 5 → Coded (opIn b k)
-    pub past : byte b 5 ≤ k → opIn b k ≡ noOp
+    pub spare : byte b (op_place k + 3) ≡ 0
+    pub within : k < byte b 5 → Coded (op_within b k)
+    pub past : byte b 5 ≤ k → op_within b k ≡ no_op
 
-  all-zero : (k : ℕ) → ((i : ℕ) → opPlace k ≤ i → i < opPlace k + opSize → byte b i ≡ 0) → opIn b k ≡ noOp
-  all-zero k h =
-      let at = opPlace k in
+  all_zero : (k : ℕ) → ((i : ℕ) → op_place k ≤ i → i < op_place k + op_size → byte b i ≡ 0) → op_within b k ≡ no_op
+  all_zero k h =
+      let at = op_place k in
       let z : number b (at + 4) ≡ 0 = omega (
         arith,
         h (at + 4) (omega arith) (omega arith),
@@ -114,108 +114,108 @@ module _ (b : List ℕ) where
       let z2 = h (at + 2) (omega arith) (omega arith) in
       λ i. record { code = z0 i; cell = z1 i; second = z2 i; amount = z i }
 
-  zero-all : (k : ℕ) → byte b (opPlace k + 3) ≡ 0 → opIn b k ≡ noOp → (i : ℕ) → opPlace k ≤ i → i < opPlace k + opSize → byte b i ≡ 0
-  zero-all k f e i l m =
-      let at = opPlace k in
+  zero_all : (k : ℕ) → byte b (op_place k + 3) ≡ 0 → op_within b k ≡ no_op → (i : ℕ) → op_place k ≤ i → i < op_place k + op_size → byte b i ≡ 0
+  zero_all k f e i l m =
+      let at = op_place k in
       let z : number b (at + 4) ≡ 0 = ap (λ (o : Op). o.amount) e in
-      by-test (ltb i (at + 4))
+      by_test (ltb i (at + 4))
       (λ y. four (λ i. byte b i ≡ 0) at (ap (λ (o : Op). o.code) e) (ap (λ (o : Op). o.cell) e) (ap (λ (o : Op). o.second) e) f
       i l (ltb-true i (at + 4) y))
       (λ n. let s = ltb-false i (at + 4) n in
       four (λ i. byte b i ≡ 0) (at + 4) (omega arith) (omega arith) (omega arith) (omega arith) i s (omega arith))
 
-  decides-placed : (k : ℕ) → Decides (R.opAtOk b k) (Placed k)
-  decides-placed k =
-      by-test (ltb k (byte b 5))
+  decides_placed : (k : ℕ) → Decides (R.op_at_ok b k) (Placed k)
+  decides_placed k =
+      by_test (ltb k (byte b 5))
       (λ y. rw y
-      (decides-as
+      (decides_as
       (λ h. record { spare = h.1; within = λ s. h.0; past = λ s. absurd (omega (arith, ltb-true k (byte b 5) y)) })
       (λ p. (p.within (ltb-true k (byte b 5) y), p.spare))
-      (decides-both (decided (λ e. e) (λ e. e)) (decides_eq (byte b (opPlace k + 3)) 0))))
+      (decides_both (decided (λ e. e) (λ e. e)) (decides_eq (byte b (op_place k + 3)) 0))))
       (λ n. rw n
-      (decides-as
+      (decides_as
       (λ h. record {
-        spare = h (opPlace k + 3) (omega arith) (omega arith);
+        spare = h (op_place k + 3) (omega arith) (omega arith);
         within = λ s. absurd (omega (arith, ltb-false k (byte b 5) n));
-        past = λ s. all-zero k h;
+        past = λ s. all_zero k h;
       })
-      (λ p. zero-all k p.spare (p.past (ltb-false k (byte b 5) n)))
-      (decides-zeros (opPlace k) opSize)))
+      (λ p. zero_all k p.spare (p.past (ltb-false k (byte b 5) n)))
+      (decides_zeros (op_place k) op_size)))
 
-  decides-ops : Decides (R.opsOkFrom b 0 mostOps) ((k : ℕ) → 0 ≤ k → k < mostOps → Placed k)
-  decides-ops = decides-from (R.opAtOk b) (R.opsOkFrom b) (λ k. refl) (λ k n. refl) Placed decides-placed 0 mostOps
+  decides_ops : Decides (R.ops_ok_from b 0 most_ops) ((k : ℕ) → 0 ≤ k → k < most_ops → Placed k)
+  decides_ops = decides_from (R.op_at_ok b) (R.ops_ok_from b) (λ k. refl) (λ k n. refl) Placed decides_placed 0 most_ops
 
   -- THE REQUEST
-  pub same-request : byte b 5 ≤ mostOps → requestOf (slotIn b) ≡ R.requestIn b
-  unfolding R.requestIn
-  same-request l = rw (same-ops 0 (byte b 5) mostOps l)
+  pub same_request : byte b 5 ≤ most_ops → request_of (slot_within b) ≡ R.request_in b
+  unfolding R.request_in
+  same_request l = rw (same_ops 0 (byte b 5) most_ops l)
 
-  few : P.valid (R.requestIn b) ≡ true → byte b 5 ≤ mostOps
-  unfolding R.requestIn
-  few v = omega (arith, (is-valid (R.requestIn b) v).few-ops, plain-long 0 (byte b 5))
+  few : P.valid (R.request_in b) ≡ true → byte b 5 ≤ most_ops
+  unfolding R.request_in
+  few v = omega (arith, (is_valid (R.request_in b) v).few_ops, plain_long 0 (byte b 5))
 
   -- what holds of the slot by places
-  holds-in : ((k : ℕ) → 0 ≤ k → k < mostOps → Placed k) → P.valid (R.requestIn b) ≡ true → Holds (slotIn b)
-  holds-in h v =
+  holds_in : ((k : ℕ) → 0 ≤ k → k < most_ops → Placed k) → P.valid (R.request_in b) ≡ true → Holds (slot_within b)
+  holds_in h v =
       let l = few v in
-      let long = ops-long 0 mostOps in
+      let long = ops_long 0 most_ops in
       record {
         count = l;
-        coded = all-ops (slotIn b) long Coded l (λ k s. rw (op-in k (omega arith)) ((h k (omega arith) (omega arith)).within s));
-        rest = zeros-from (slotIn b) long (byte b 5) l (λ k s m. op-in k s ∙ (h k (omega arith) s).past m);
-        valid = rw (same-request l) v;
+        coded = all_ops (slot_within b) long Coded l (λ k s. rw (op_in_lem k (omega arith)) ((h k (omega arith) (omega arith)).within s));
+        rest = zeros_from (slot_within b) long (byte b 5) l (λ k s m. op_in_lem k s ∙ (h k (omega arith) s).past m);
+        valid = rw (same_request l) v;
       }
 
-  placed-in : SpareZero b → Holds (slotIn b) → (k : ℕ) → 0 ≤ k → k < mostOps → Placed k
-  placed-in z h k o l =
-      let at = (held (slotIn b) (ops-long 0 mostOps) h).ops k l in
-      let e : get_or (opsIn b 0 mostOps) k noOp ≡ opIn b k = op-in k l in
+  placed_in : SpareZero b → Holds (slot_within b) → (k : ℕ) → 0 ≤ k → k < most_ops → Placed k
+  placed_in z h k o l =
+      let at = (held (slot_within b) (ops_long 0 most_ops) h).ops k l in
+      let e : get_or (ops_within b 0 most_ops) k no_op ≡ op_within b k = op_in_lem k l in
       record { spare = z.ops k l; within = λ s. rw e at (at.within s).coded; past = λ s. sym e ∙ at.past s }
 
   -- A RECORD
-  pub not-record : (length b ≡ recordSize → ⊥) → isRecord b ≡ false
-  unfolding isRecord
-  not-record n = rw (ne_eqb (length b) recordSize n)
+  pub not_record : (length b ≡ record_size → ⊥) → is_record b ≡ false
+  unfolding is_record
+  not_record n = rw (ne_eqb (length b) record_size n)
 
-  of-record : isRecord b ≡ true → SpareZero b × Holds (slotIn b)
-  unfolding isRecord
-  of-record e =
-      let t = all_true (R.recordRules b) e in
-      let z = (decides-zeros 6 2).yes t.1.1.0 in
-      let p = decides-ops.yes t.1.1.1.0 in
+  of_record : is_record b ≡ true → SpareZero b × Holds (slot_within b)
+  unfolding is_record
+  of_record e =
+      let t = all_true (R.record_rules b) e in
+      let z = (decides_zeros 6 2).yes t.1.1.0 in
+      let p = decides_ops.yes t.1.1.1.0 in
       let spare : SpareZero b = record {
         head = (z 6 (omega arith) (omega arith), z 7 (omega arith) (omega arith));
         ops = λ k s. (p k (omega arith) s).spare;
       } in
-      (spare, holds-in p t.1.1.1.1.0)
+      (spare, holds_in p t.1.1.1.1.0)
 
-  is-record : Bytes b → length b ≡ recordSize → SpareZero b → Holds (slotIn b) → isRecord b ≡ true
-  unfolding isRecord
-  is-record h l z r =
+  holds_record : Bytes b → length b ≡ record_size → SpareZero b → Holds (slot_within b) → is_record b ≡ true
+  unfolding is_record
+  holds_record h l z r =
       let small = all_from (λ x. ltb x 256 ≡ true) 0 b (λ i s. lt-ltb (byte b i) 256 (h i s)) in
-      let spare : R.zeroAt b 6 2 ≡ true = rw (z.head.0, z.head.1) in
-      let asked : P.valid (R.requestIn b) ≡ true = rw (sym (same-request r.count)) r.valid in
-      every-five
-      (eq-eqb (length b) recordSize l)
-      (every_true (map (λ x. ltb x 256) b) (map-of-all (λ x. ltb x 256) (λ t. t ≡ true) b small))
+      let spare : R.zero_at b 6 2 ≡ true = rw (z.head.0, z.head.1) in
+      let asked : P.valid (R.request_in b) ≡ true = rw (sym (same_request r.count)) r.valid in
+      every_five
+      (eq-eqb (length b) record_size l)
+      (every_true (map (λ x. ltb x 256) b) (map_of_all (λ x. ltb x 256) (λ t. t ≡ true) b small))
       spare
-      (holds decides-ops (placed-in z r))
+      (holds decides_ops (placed_in z r))
       asked
 
-  pub decides-record : Bytes b → length b ≡ recordSize → Decides (isRecord b) (SpareZero b × Holds (slotIn b))
-  decides-record h l = decided of-record (λ r. is-record h l r.0 r.1)
+  pub decides_record : Bytes b → length b ≡ record_size → Decides (is_record b) (SpareZero b × Holds (slot_within b))
+  decides_record h l = decided of_record (λ r. holds_record h l r.0 r.1)
 
-  pub refuted : Bytes b → length b ≡ recordSize → (SpareZero b → Holds (slotIn b) → ⊥) → isRecord b ≡ false
-  refuted h l n = by-test (isRecord b) (λ t. let p = (decides-record h l).yes t in absurd (n p.0 p.1)) (λ f. f)
+  pub refuted : Bytes b → length b ≡ record_size → (SpareZero b → Holds (slot_within b) → ⊥) → is_record b ≡ false
+  refuted h l n = by_test (is_record b) (λ t. let p = (decides_record h l).yes t in absurd (n p.0 p.1)) (λ f. f)
 
   -- what reading came to
-  pub no_record : (v : Slot) → isRecord b ≡ false → ReadInto b false v
-  no_record v e = record { ok-is = sym e; new = λ t. no _ t refl; request = λ t. no _ t refl }
+  pub no_record : (v : Slot) → is_record b ≡ false → ReadInto b false v
+  no_record v e = record { ok_is = sym e; new = λ t. no _ t refl; request = λ t. no _ t refl }
 
-  pub a-record : isRecord b ≡ true → Holds (slotIn b) → ReadInto b true (slotIn b)
-  a-record e h =
+  pub a_record : is_record b ≡ true → Holds (slot_within b) → ReadInto b true (slot_within b)
+  a_record e h =
       record {
-        ok-is = sym e;
+        ok_is = sym e;
         new = λ t. record { held = h; number = refl; done = refl; mark = refl; backs = refl };
-        request = λ t. same-request h.count;
+        request = λ t. same_request h.count;
       }

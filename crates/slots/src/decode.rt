@@ -1,10 +1,10 @@
 // The request record of 64 bytes, read into a slot.
 ghost use Rattle.std.specs.Prelude.{◌≡◌, false, ◌+◌, ◌<◌, ◌≤◌, length};
-ghost use Rattle.plain.specs.Sizes.{mostOps, recordSize};
+ghost use Rattle.plain.specs.Sizes.{most_ops, record_size};
 ghost use Rattle.plain.specs.Record.{byte, number};
 ghost use Rattle.plain.specs.Decides.{Decides};
-ghost use Rattle.slots.specs.Meaning.{freeSlot};
-ghost use Rattle.slots.specs.Rules.{SpareZero, ReadInto, opIn, opsIn, slotIn};
+ghost use Rattle.slots.specs.Meaning.{slot_free};
+ghost use Rattle.slots.specs.Rules.{SpareZero, ReadInto, op_within, ops_within, slot_within};
 
 use super::{MOST_OPS, Slot, free_slot, holds};
 use cells::Op;
@@ -46,8 +46,8 @@ pub fn word_at(bytes: &[u8], at: usize) -> u32
 
 // Operation k of a record.
 fn op_at(bytes: &[u8], k: usize) -> Op
-    requires { (length bytes.now ≡ recordSize) × (k < mostOps) }
-    ensures { result ≡ opIn bytes.now k }
+    requires { (length bytes.now ≡ record_size) × (k < most_ops) }
+    ensures { result ≡ op_within bytes.now k }
 {
     let at = FIRST_OP + OP_SIZE * k;
     let amount = word_at(bytes, at + 4);
@@ -61,8 +61,8 @@ fn op_at(bytes: &[u8], k: usize) -> Op
 
 // The seven operations of a record.
 fn ops_in(bytes: &[u8]) -> [Op; MOST_OPS]
-    requires { length bytes.now ≡ recordSize }
-    ensures { result ≡ opsIn bytes.now 0 mostOps }
+    requires { length bytes.now ≡ record_size }
+    ensures { result ≡ ops_within bytes.now 0 most_ops }
 {
     let free = free_slot();
     let mut ops = free.ops;
@@ -76,8 +76,8 @@ fn ops_in(bytes: &[u8]) -> [Op; MOST_OPS]
 
 // The slot that the bytes of a record name.
 fn slot_in(bytes: &[u8]) -> Slot
-    requires { length bytes.now ≡ recordSize }
-    ensures { result ≡ slotIn bytes.now }
+    requires { length bytes.now ≡ record_size }
+    ensures { result ≡ slot_within bytes.now }
 {
     let id = word_at(bytes, 0);
     let ops = ops_in(bytes);
@@ -95,7 +95,7 @@ fn slot_in(bytes: &[u8]) -> Slot
 
 // Whether the bytes that no field has are zero.
 fn spare_zero(bytes: &[u8]) -> bool
-    requires { length bytes.now ≡ recordSize }
+    requires { length bytes.now ≡ record_size }
     ensures { Decides result (SpareZero bytes.now) }
 {
     if bytes[SPARE_AT] != 0 {
@@ -125,7 +125,7 @@ pub struct Record {
 // The request of 64 bytes, as a new slot; not ok where they are no record.
 pub fn read_record(bytes: &[u8]) -> Record
     ensures read_into { ReadInto bytes.now result.ok result.slot }
-    ensures slot_value { result.ok ≡ false → result.slot ≡ freeSlot }
+    ensures slot_value { result.ok ≡ false → result.slot ≡ slot_free }
 {
     let free = free_slot();
     let none = Record {

@@ -1,7 +1,7 @@
 // The slot: one booking request with how far it has come, and its rules.
 ghost use Rattle.std.specs.Prelude.{◌≡◌, ◌⊎◌};
 ghost use Rattle.plain.specs.Decides.{Decides};
-ghost use Rattle.slots.specs.Meaning.{freeSlot};
+ghost use Rattle.slots.specs.Meaning.{slot_free};
 ghost use Rattle.slots.specs.Rules.{OpsOk, OpsZero, Holds};
 
 use cells::{CLASSES, Op, op_ok, op_zero};
@@ -27,7 +27,7 @@ pub struct Slot {
 
 // The slot that is free and all zero.
 pub fn free_slot() -> Slot
-    ensures { result ≡ freeSlot }
+    ensures { result ≡ slot_free }
 {
     let none = Op {
         code: 0,
@@ -107,7 +107,7 @@ fn ops_zero(v: Slot) -> bool
 
 // Whether a slot is the free one.
 pub fn is_zero(v: Slot) -> bool
-    ensures { Decides result (v ≡ freeSlot) }
+    ensures { Decides result (v ≡ slot_free) }
 {
     let none = (v.id == 0) & (v.class == 0) & (v.count == 0);
     let untouched = (v.number == 0) & (v.done == 0) & (v.mark == 0) & (v.backs == 0);
@@ -116,7 +116,7 @@ pub fn is_zero(v: Slot) -> bool
 
 // Whether a slot is free and all zero, or holds a valid record.
 pub fn slot_ok(v: Slot) -> bool
-    ensures { Decides result ((v ≡ freeSlot) ⊎ Holds v) }
+    ensures { Decides result ((v ≡ slot_free) ⊎ Holds v) }
 {
     if v.id != 0 {
         return holds(v);

@@ -1,16 +1,16 @@
 // A slot's operations, on the cells of its class.
 ghost use Rattle.std.specs.Prelude.{◌≡◌, ◌<◌, ◌≤◌, length};
-ghost use Rattle.plain.specs.Sizes.{cellCount};
+ghost use Rattle.plain.specs.Sizes.{cell_count};
 ghost use Rattle.slots.specs.Rules.{Holds};
-ghost use Rattle.slots.specs.Steps.{carriedAt, ranTo, Marked, StepDone, RanOn, HeadOk};
+ghost use Rattle.slots.specs.Steps.{carried_at, ran_to, Marked, StepDone, RanOn, HeadOk};
 
 use super::Slot;
 use cells::{CELLS, carry, copy_cells, same_cells};
 
 // The slot's operation k, on cells of its class. Its place, from 1, if it declines, and then it leaves them; else 0.
 fn carry_at(v: Slot, k: u8, cells: &mut [u32]) -> u8
-    requires { (length cells.old ≡ cellCount) × Holds v × (k < v.count) }
-    ensures cells_value { carriedAt v k cells.old ≡ ranTo result cells.new }
+    requires { (length cells.old ≡ cell_count) × Holds v × (k < v.count) }
+    ensures cells_value { carried_at v k cells.old ≡ ran_to result cells.new }
     ensures cells_unchanged { 0 < result → cells.new ≡ cells.old }
 {
     let i = k as usize;
@@ -23,7 +23,7 @@ fn carry_at(v: Slot, k: u8, cells: &mut [u32]) -> u8
 
 // The slot's next operation, on the working cells. One that declines, or that has, leaves the committed ones.
 pub fn step(mut v: Slot, from: &[u32], cells: &mut [u32]) -> Slot
-    requires { (length from.now ≡ cellCount) × (length cells.old ≡ cellCount) × Holds v × (v.done < v.count) × Marked v from.now cells.old }
+    requires { (length from.now ≡ cell_count) × (length cells.old ≡ cell_count) × Holds v × (v.done < v.count) × Marked v from.now cells.old }
     ensures { StepDone v from.now cells.old result cells.new }
 {
     let k = v.done;
@@ -48,7 +48,7 @@ pub struct Ran {
 
 // The slot's done operations, on a copy of the committed cells.
 pub fn run_done(v: Slot, from: &[u32]) -> Ran
-    requires { (length from.now ≡ cellCount) × Holds v × (v.done ≤ v.count) }
+    requires { (length from.now ≡ cell_count) × Holds v × (v.done ≤ v.count) }
     ensures { RanOn v from.now result.mark result.cells }
 {
     let mut work = [0u32; CELLS];
@@ -73,7 +73,7 @@ pub fn run_done(v: Slot, from: &[u32]) -> Ran
 
 // Whether a slot may be the head of its class, with the class's committed and working cells.
 pub fn head_ok(v: Slot, from: &[u32], working: &[u32]) -> bool
-    requires { (length from.now ≡ cellCount) × (length working.now ≡ cellCount) × Holds v }
+    requires { (length from.now ≡ cell_count) × (length working.now ≡ cell_count) × Holds v }
     ensures { HeadOk result v from.now working.now }
 {
     if v.count < v.done {

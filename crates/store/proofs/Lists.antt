@@ -7,9 +7,9 @@ use mathlib.Core.List.{List, [], ◌∷◌, ◌++◌, map}
 use lib.Dec.{eqb}
 use lib.ListN.{length, get_or, take, drop, set, replicate, take-append-drop, length-drop}
 use lib.Seq.{drop-drop, set_at, append_snoc, take_at, drop_at}
-use Rattle.places.specs.Moves.{movedUp, firstOff}
+use Rattle.places.specs.Moves.{moved_up, first_off}
 use borrow.Author.Tests.{eqb-true, eqb-false, ne_eqb}
-use Rattle.plain.proofs.Tests.{by-test}
+use Rattle.plain.proofs.Tests.{by_test}
 use Rattle.plain.specs.Sound.{All}
 use Rattle.store.specs.Sound.{times}
 
@@ -33,32 +33,32 @@ module _ {A : Type 0} where
 
 -- a map of a list's parts, and of a list in which one has moved
 module _ {A B : Type 0} (f : A → B) where
-  pub map-append : (p q : List A) → map f (p ++ q) ≡ map f p ++ map f q
-  map-append [] q = refl
-  map-append (a ∷ p) q = rw (map-append p q)
+  pub map_append : (p q : List A) → map f (p ++ q) ≡ map f p ++ map f q
+  map_append [] q = refl
+  map_append (a ∷ p) q = rw (map_append p q)
 
-  pub map-take : (n : ℕ) (l : List A) → map f (take n l) ≡ take n (map f l)
-  map-take zero l = refl
-  map-take (suc n) [] = refl
-  map-take (suc n) (x ∷ l) = rw (map-take n l)
+  pub map_take : (n : ℕ) (l : List A) → map f (take n l) ≡ take n (map f l)
+  map_take zero l = refl
+  map_take (suc n) [] = refl
+  map_take (suc n) (x ∷ l) = rw (map_take n l)
 
-  pub map-drop : (n : ℕ) (l : List A) → map f (drop n l) ≡ drop n (map f l)
-  map-drop zero l = refl
-  map-drop (suc n) [] = refl
-  map-drop (suc n) (x ∷ l) = map-drop n l
+  pub map_drop : (n : ℕ) (l : List A) → map f (drop n l) ≡ drop n (map f l)
+  map_drop zero l = refl
+  map_drop (suc n) [] = refl
+  map_drop (suc n) (x ∷ l) = map_drop n l
 
-  pub map-moved : (x : A) (l : List A) (from to : ℕ) → map f (movedUp x l from to) ≡ movedUp (f x) (map f l) from to
-  map-moved x l from to = simp (map-append, map-drop, map-take)
+  pub map_moved : (x : A) (l : List A) (from to : ℕ) → map f (moved_up x l from to) ≡ moved_up (f x) (map f l) from to
+  map_moved x l from to = simp (map_append, map_drop, map_take)
 
 -- the first of a queue's places goes, the rest of the part being zero
-pub first_off : (p : ℕ) (ps zs : List ℕ) → firstOff ((p ∷ ps) ++ zs) (suc (length ps)) ≡ ps ++ 0 ∷ zs
-first_off p ps zs = rw (take_at ps zs (length ps) refl, drop_at ps zs (length ps) refl)
+pub first_off_lem : (p : ℕ) (ps zs : List ℕ) → first_off ((p ∷ ps) ++ zs) (suc (length ps)) ≡ ps ++ 0 ∷ zs
+first_off_lem p ps zs = rw (take_at ps zs (length ps) refl, drop_at ps zs (length ps) refl)
 
 -- two maps that agree on a list agree at what stands in it
 pub map_at : {B : Type 0} (f g : ℕ → B) (i : ℕ) (ps : List ℕ) → map f ps ≡ map g ps → 0 < times i ps → f i ≡ g i
 map_at f g i [] e h = absurd (omega arith)
 map_at f g i (x ∷ ps) e h =
-    by-test (eqb x i)
+    by_test (eqb x i)
     (λ t. let p : x ≡ i = eqb-true x i t in let q : f x ≡ g x = cc in rw p at q)
     (λ n. map_at f g i ps (cc) (rw n at h))
 
@@ -66,21 +66,21 @@ map_at f g i (x ∷ ps) e h =
 pub map_same : {B : Type 0} (f g : ℕ → B) (i : ℕ) (ps : List ℕ) → ((j : ℕ) → (j ≡ i → ⊥) → f j ≡ g j) → times i ps ≡ 0 → map f ps ≡ map g ps
 map_same f g i [] e h = refl
 map_same f g i (x ∷ ps) e h =
-    by-test (eqb x i)
+    by_test (eqb x i)
     (λ t. absurd (omega (arith, rw t at h)))
     (λ n. let r = map_same f g i ps e (rw n at h) in rw (e x (eqb-false x i n), r))
 
-pub times-append : (i : ℕ) (p q : List ℕ) → times i (p ++ q) ≡ times i p + times i q
-times-append i [] q = omega arith
-times-append i (x ∷ p) q =
-    by-test (eqb x i)
-    (λ t. rw t (omega (arith, times-append i p q)))
-    (λ n. rw n (times-append i p q))
+pub times_append : (i : ℕ) (p q : List ℕ) → times i (p ++ q) ≡ times i p + times i q
+times_append i [] q = omega arith
+times_append i (x ∷ p) q =
+    by_test (eqb x i)
+    (λ t. rw t (omega (arith, times_append i p q)))
+    (λ n. rw n (times_append i p q))
 
-pub map-set : {A B : Type 0} (f : A → B) (l : List A) (i : ℕ) (x : A) → map f (set l i x) ≡ set (map f l) i (f x)
-map-set f [] i x = refl
-map-set f (y ∷ l) zero x = refl
-map-set f (y ∷ l) (suc i) x = rw (map-set f l i x)
+pub map_set : {A B : Type 0} (f : A → B) (l : List A) (i : ℕ) (x : A) → map f (set l i x) ≡ set (map f l) i (f x)
+map_set f [] i x = refl
+map_set f (y ∷ l) zero x = refl
+map_set f (y ∷ l) (suc i) x = rw (map_set f l i x)
 
 -- a list of n places of which the first are used: one more is taken at the end
 pub push : {A : Type 0} (l ps : List A) (n k : ℕ) (z x : A) (at : ℕ) → l ≡ ps ++ replicate n z → length ps ≡ at → n ≡ suc k
@@ -92,10 +92,10 @@ pub replicate_more : {A : Type 0} (n k : ℕ) (a : A) → n ≡ suc k → replic
 replicate_more n k a e = rw e
 
 -- what holds of every one of a list, by place, and of what stands there
-pub all-place : {A : Type 0} (Q : A → Type 0) (d : A) (l : List A) → All Q l → (k : ℕ) → k < length l → Q (get_or l k d)
-all-place Q d [] h k m = absurd (omega arith)
-all-place Q d (x ∷ l) h zero m = h.0
-all-place Q d (x ∷ l) h (suc k) m = all-place Q d l h.1 k (omega arith)
+pub all_place : {A : Type 0} (Q : A → Type 0) (d : A) (l : List A) → All Q l → (k : ℕ) → k < length l → Q (get_or l k d)
+all_place Q d [] h k m = absurd (omega arith)
+all_place Q d (x ∷ l) h zero m = h.0
+all_place Q d (x ∷ l) h (suc k) m = all_place Q d l h.1 k (omega arith)
 
 -- what stands at no place of a list does not stand in it
 pub times_none : (i : ℕ) (ps : List ℕ) → ((k : ℕ) → k < length ps → get_or ps k 0 ≡ i → ⊥) → times i ps ≡ 0

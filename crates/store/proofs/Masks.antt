@@ -10,22 +10,22 @@ use lib.ListN.{get_or}
 use lib.Seq.{ext_get_or}
 use borrow.Author.Tests.{ltb-true, ltb-false}
 use Rattle.plain.specs.Site.{lowest, bits, named}
-use Rattle.plain.proofs.Tests.{by-test}
-use Rattle.plain.proofs.Sums.{lowest-passes, lowest-none}
+use Rattle.plain.proofs.Tests.{by_test}
+use Rattle.plain.proofs.Sums.{lowest_passes, lowest_none}
 use Rattle.usedmap.specs.Flags.{bits_of}
-use Rattle.usedmap.proofs.Bits.{bits-length, bits-inj}
+use Rattle.usedmap.proofs.Bits.{bits_length, bits_inj}
 
-bits-same : (k n : ℕ) → bits k n ≡ bits_of k n
+bits_same : (k n : ℕ) → bits k n ≡ bits_of k n
 unfolding bits bits_of
-bits-same zero n = refl
-bits-same (suc k) n = ap (λ (l : List Bool). eqb (n % 2) 1 ∷ l) (bits-same k (n / 2))
+bits_same zero n = refl
+bits_same (suc k) n = ap (λ (l : List Bool). eqb (n % 2) 1 ∷ l) (bits_same k (n / 2))
 
-pub mask-inj : (m n : ℕ) → m < 2 ^ 16 → n < 2 ^ 16 → ((c : ℕ) → c < 16 → named m c ≡ named n c) → m ≡ n
+pub mask_inj : (m n : ℕ) → m < 2 ^ 16 → n < 2 ^ 16 → ((c : ℕ) → c < 16 → named m c ≡ named n c) → m ≡ n
 unfolding named
-mask-inj m n l k h =
-    bits-inj 16 m n l k
-    (ext_get_or false (bits_of 16 m) (bits_of 16 n) (bits-length 16 m ∙ sym (bits-length 16 n))
-    (λ c g. ap (λ (b : List Bool). get_or b c false) (sym (bits-same 16 m)) ∙ h c (omega (arith, bits-length 16 m)) ∙ ap (λ (b : List Bool). get_or b c false) (bits-same 16 n)))
+mask_inj m n l k h =
+    bits_inj 16 m n l k
+    (ext_get_or false (bits_of 16 m) (bits_of 16 n) (bits_length 16 m ∙ sym (bits_length 16 n))
+    (λ c g. ap (λ (b : List Bool). get_or b c false) (sym (bits_same 16 m)) ∙ h c (omega (arith, bits_length 16 m)) ∙ ap (λ (b : List Bool). get_or b c false) (bits_same 16 n)))
 
 pub none_named : (c : ℕ) → named 0 c ≡ false
 unfolding named bits
@@ -37,8 +37,8 @@ none_named c = go 16 c
     go (suc k) (suc c) = go k c
 
 -- a mask is 0 or names a class
-pub some-named : (m : ℕ) → m < 2 ^ 16 → (m ≡ 0) ⊎ ((c : ℕ) × (c < 16) × (named m c ≡ true))
-some-named m l =
-    by-test (ltb (lowest (named m) 0 16) 16)
-    (λ t. let k = ltb-true _ 16 t in inr (lowest (named m) 0 16, k, lowest-passes (named m) 0 16 k))
-    (λ f. inl (mask-inj m 0 l (omega arith) (λ c k. lowest-none (named m) 0 16 (ltb-false _ 16 f) c (omega arith) k ∙ sym (none_named c))))
+pub some_named : (m : ℕ) → m < 2 ^ 16 → (m ≡ 0) ⊎ ((c : ℕ) × (c < 16) × (named m c ≡ true))
+some_named m l =
+    by_test (ltb (lowest (named m) 0 16) 16)
+    (λ t. let k = ltb-true _ 16 t in inr (lowest (named m) 0 16, k, lowest_passes (named m) 0 16 k))
+    (λ f. inl (mask_inj m 0 l (omega arith) (λ c k. lowest_none (named m) 0 16 (ltb-false _ 16 f) c (omega arith) k ∙ sym (none_named c))))

@@ -11,38 +11,38 @@ use lib.Dec.{ltb, leb}
 use lib.ListN.{get_or, set, length-map, length-set}
 use lib.Seq.{get_or-set_same}
 use borrow.Author.Tests.{ne_eqb, lt-ltb, le-ltb, le-leb, lt-leb}
-use Rattle.plain.specs.Queue.{confirmedCosts}
+use Rattle.plain.specs.Queue.{confirmed_costs}
 use Rattle.plain.specs.Steps as K
 use Rattle.plain.specs.Site as S
-use Rattle.plain.proofs.Tests.{by-test}
-use Rattle.plain.proofs.Recent.{kept_under, under-kept}
-use Rattle.slots.specs.Meaning.{entry_of, freeSlot, requestOf, slot_at}
+use Rattle.plain.proofs.Tests.{by_test}
+use Rattle.plain.proofs.Recent.{kept_under, under_kept}
+use Rattle.slots.specs.Meaning.{entry_of, slot_free, request_of, slot_at}
 use Rattle.slots.specs.Rules.{Holds, New}
-use Rattle.plain.specs.Record.{isRecord, request, requestIn}
+use Rattle.plain.specs.Record.{is_record, request, request_in}
 use Rattle.slots.specs.declared.Slot.{Slot}
-use Rattle.store.proofs.Asked.{free-is, id-absent, id-found, lowest-is-free, queued-is, room}
-use Rattle.store.proofs.Canonical.{has-class, has-id, places-length}
+use Rattle.store.proofs.Asked.{free_is, id_absent, id_found, lowest_is_free, queued_is, room}
+use Rattle.store.proofs.Canonical.{has_class, has_id, places_length}
 use Rattle.store.proofs.KeptIds.{place_of}
-use Rattle.store.proofs.Meant.{to-plain}
-use Rattle.store.proofs.Offer.{offer-laid, offer-means}
-use Rattle.store.proofs.Promise.{sound-kept}
-use Rattle.store.proofs.Summed.{offer-sum}
+use Rattle.store.proofs.Meant.{to_plain}
+use Rattle.store.proofs.Offer.{offer_laid, offer_means}
+use Rattle.store.proofs.Promise.{sound_kept}
+use Rattle.store.proofs.Summed.{offer_sum}
 use Rattle.store.specs.Calls.{State, RightCells, SoundState, Did, plain_of}
 use Rattle.store.specs.Checks.{InUse, Spare}
-use Rattle.store.specs.Meaning.{Same, len_of, plain, plainClass}
+use Rattle.store.specs.Meaning.{Same, len_of, plain, plain_class}
 use Rattle.store.specs.Steps.{placed}
 use Rattle.store.specs.Store.{Shaped, Store}
-use Rattle.usedmap.specs.Flags.{countUsed, firstFree, usedOf}
+use Rattle.usedmap.specs.Flags.{count_used, first_free, used_of}
 
 -- a plain call that is refused, one that is accepted
 module _ (p : S.Site) (k : S.Call) where
-  pub refused-call : (n : ℕ) → 0 < n → S.refusal p k ≡ n → S.call p k ≡ record { site = p; answer = K.refused n }
+  pub refused_call : (n : ℕ) → 0 < n → S.refusal p k ≡ n → S.call p k ≡ record { site = p; answer = K.refused n }
   unfolding S.call
-  refused-call n l e = rw (e, ne_eqb n 0 (omega arith))
+  refused_call n l e = rw (e, ne_eqb n 0 (omega arith))
 
-  pub accepted-call : S.refusal p k ≡ 0 → S.call p k ≡ S.act p k
+  pub accepted_call : S.refusal p k ≡ 0 → S.call p k ≡ S.act p k
   unfolding S.call
-  accepted-call e = rw (e)
+  accepted_call e = rw (e)
 
 pub same_refl : (a : S.Site) → Same a a
 same_refl a = record { class = λ c l. refl; confirmations = refl; commits = refl; queries = refl; kept = λ n r. refl }
@@ -50,12 +50,12 @@ same_refl a = record { class = λ c l. refl; confirmations = refl; commits = ref
 -- a call that is refused on a sound site
 pub not_done : (x : State) (k : S.Call) (n : ℕ) → RightCells x → SoundState x → 0 < n → S.refusal (plain_of x) k ≡ n → Did x k x (K.refused n)
 not_done x k n r s l e =
-    let q = refused-call (plain_of x) k n l e in
+    let q = refused_call (plain_of x) k n l e in
     record { cells = r; sound = s; site = rw q (same_refl (plain_of x)); answer = rw q }
 
 -- a new slot is the entry of an offer
-new-entry : (v : Slot) → New v → (i : ℕ) → entry_of i v ≡ K.newEntry (requestOf v) i
-new-entry v n i = λ k. record { request = requestOf v; slot = i; number = n.number k; done = n.done k; mark = n.mark k; backs = n.backs k }
+new_entry_lem : (v : Slot) → New v → (i : ℕ) → entry_of i v ≡ K.new_entry (request_of v) i
+new_entry_lem v n i = λ k. record { request = request_of v; slot = i; number = n.number k; done = n.done k; mark = n.mark k; backs = n.backs k }
 
 module _ (x : State) (w : Shaped x.site) (r : RightCells x) (q : SoundState x) (b : List ℕ) where
   abbrev s : Store
@@ -67,102 +67,102 @@ module _ (x : State) (w : Shaped x.site) (r : RightCells x) (q : SoundState x) (
   abbrev k : S.Call
   k = S.offer b
 
-  pub bad-record : isRecord b ≡ false → Did x k x (K.refused 3)
+  pub bad_record : is_record b ≡ false → Did x k x (K.refused 3)
   unfolding S.refusal request
-  bad-record f = not_done x k 3 r q (omega arith) (rw f)
+  bad_record f = not_done x k 3 r q (omega arith) (rw f)
 
-  module _ (ok : isRecord b ≡ true) (v : Slot) (new : New v) (req : requestOf v ≡ requestIn b) where
+  module _ (ok : is_record b ≡ true) (v : Slot) (new : New v) (req : request_of v ≡ request_in b) where
     held : Holds v
     held = new.held
 
     -- what is left of the table
-    left-tests : S.refusal p k ≡ cond (ltb (S.class_of p v.id) 16) 4 (cond (S.isKept p v.id) 14 (cond (leb 128 (S.numberQueued p)) 5 0))
+    left_tests : S.refusal p k ≡ cond (ltb (S.class_of p v.id) 16) 4 (cond (S.is_kept p v.id) 14 (cond (leb 128 (S.number_queued p)) 5 0))
     unfolding S.refusal request
-    left-tests = rw (ok, ← req)
+    left_tests = rw (ok, ← req)
 
-    pub id-queued : (j : ℕ) → (slot_at s.slots j).id ≡ v.id → Did x k x (K.refused 4)
-    id-queued j e =
-        let u = has-id v held in
-        let found = id-found s w q.laid x.committed x.working (to-plain s w.slots w.queries q.laid x.committed x.working q) j (omega arith) in
-        not_done x k 4 r q (omega arith) (left-tests ∙ rw (← e, lt-ltb (S.class_of p (slot_at s.slots j).id) 16 (omega (arith, found.0, found.1))))
+    pub id_queued : (j : ℕ) → (slot_at s.slots j).id ≡ v.id → Did x k x (K.refused 4)
+    id_queued j e =
+        let u = has_id v held in
+        let found = id_found s w q.laid x.committed x.working (to_plain s w.slots w.queries q.laid x.committed x.working q) j (omega arith) in
+        not_done x k 4 r q (omega arith) (left_tests ∙ rw (← e, lt-ltb (S.class_of p (slot_at s.slots j).id) 16 (omega (arith, found.0, found.1))))
 
     module _ (absent : (j : ℕ) → j < 128 → (slot_at s.slots j).id ≡ v.id → ⊥) where
       unknown : ltb (S.class_of p v.id) 16 ≡ false
-      unknown = le-ltb (S.class_of p v.id) 16 (omega (arith, id-absent s w q.laid x.committed x.working v.id (λ j l _. absent j l)))
+      unknown = le-ltb (S.class_of p v.id) 16 (omega (arith, id_absent s w q.laid x.committed x.working v.id (λ j l _. absent j l)))
 
-      pub id-kept : (j : ℕ) → j < 256 → get_or s.kept j 0 ≡ v.id → Did x k x (K.refused 14)
+      pub id_kept : (j : ℕ) → j < 256 → get_or s.kept j 0 ≡ v.id → Did x k x (K.refused 14)
       unfolding plain
-      id-kept j l e = not_done x k 14 r q (omega arith) (left-tests ∙ rw (unknown, kept-id (place_of s.confirmations j l)))
+      id_kept j l e = not_done x k 14 r q (omega arith) (left_tests ∙ rw (unknown, kept_id (place_of s.confirmations j l)))
         where
-          kept-id : InUse s.confirmations j ⊎ Spare s.confirmations j → S.isKept p v.id ≡ true
-          kept-id (inl u) = under-kept p v.id u.0 u.1 (rw u.2 e)
-          kept-id (inr u) =
-              let z : get_or s.kept j 0 ≡ 0 = rw (← u.3) (q.laid.unused-zero u.0 u.1 u.2) in absurd (omega (arith, has-id v held))
+          kept_id : InUse s.confirmations j ⊎ Spare s.confirmations j → S.is_kept p v.id ≡ true
+          kept_id (inl u) = under_kept p v.id u.0 u.1 (rw u.2 e)
+          kept_id (inr u) =
+              let z : get_or s.kept j 0 ≡ 0 = rw (← u.3) (q.laid.unused_zero u.0 u.1 u.2) in absurd (omega (arith, has_id v held))
 
       module _ (fresh-id : (j : ℕ) → j < 256 → get_or s.kept j 0 ≡ v.id → ⊥) where
-        not-kept : S.isKept p v.id ≡ false
+        not_kept : S.is_kept p v.id ≡ false
         unfolding plain
-        not-kept = by-test (S.isKept p v.id)
+        not_kept = by_test (S.is_kept p v.id)
             (λ t. let u = kept_under p v.id t in absurd (fresh-id (u.0 % 256) (omega arith) u.2)) (λ f. f)
 
-        pub slots-full : 128 ≤ countUsed (usedOf s.low s.high) → Did x k x (K.refused 5)
-        slots-full f =
+        pub slots_full : 128 ≤ count_used (used_of s.low s.high) → Did x k x (K.refused 5)
+        slots_full f =
             not_done x k 5 r q (omega arith)
-            (left-tests ∙ rw (unknown, not-kept, le-leb 128 (S.numberQueued p) (omega (arith, queued-is s w q.laid x.committed x.working))))
+            (left_tests ∙ rw (unknown, not_kept, le-leb 128 (S.number_queued p) (omega (arith, queued_is s w q.laid x.committed x.working))))
 
-        module _ (left : countUsed (usedOf s.low s.high) < 128) where
+        module _ (left : count_used (used_of s.low s.high) < 128) where
           accepted : S.refusal p k ≡ 0
-          accepted = left-tests ∙ rw (unknown, not-kept, lt-leb 128 (S.numberQueued p) (omega (arith, queued-is s w q.laid x.committed x.working)))
+          accepted = left_tests ∙ rw (unknown, not_kept, lt-leb 128 (S.number_queued p) (omega (arith, queued_is s w q.laid x.committed x.working)))
 
           -- there is a free slot, and room in the queue
-          pub here : (firstFree (usedOf s.low s.high) < 128) × (slot_at s.slots (firstFree (usedOf s.low s.high)) ≡ freeSlot)
-          here = lowest-is-free s w q.laid x.committed x.working left
+          pub here : (first_free (used_of s.low s.high) < 128) × (slot_at s.slots (first_free (used_of s.low s.high)) ≡ slot_free)
+          here = lowest_is_free s w q.laid x.committed x.working left
 
           pub fits : len_of s v.class < 136
-          fits = omega (arith, room s w q.laid x.committed x.working (to-plain s w.slots w.queries q.laid x.committed x.working q) v.class (has-class v held), queued-is s w q.laid x.committed x.working)
+          fits = omega (arith, room s w q.laid x.committed x.working (to_plain s w.slots w.queries q.laid x.committed x.working q) v.class (has_class v held), queued_is s w q.laid x.committed x.working)
 
-        module _ (left : countUsed (usedOf s.low s.high) < 128) (lo hi : ℕ)
-            (marked : usedOf lo hi ≡ set (usedOf s.low s.high) (firstFree (usedOf s.low s.high)) true) where
+        module _ (left : count_used (used_of s.low s.high) < 128) (lo hi : ℕ)
+            (marked : used_of lo hi ≡ set (used_of s.low s.high) (first_free (used_of s.low s.high)) true) where
           abbrev i : ℕ
-          i = firstFree (usedOf s.low s.high)
+          i = first_free (used_of s.low s.high)
 
           abbrev y : State
           y = record { site = placed s v.class i v lo hi; committed = x.committed; working = x.working }
 
-          outcome : S.call p k ≡ S.inClass p v.class none (K.offerStep (requestOf v) i (p.class v.class))
+          outcome : S.call p k ≡ S.in_class p v.class none (K.offer_step (request_of v) i (p.class v.class))
           unfolding S.act
-          outcome = accepted-call p k (accepted left) ∙ rw (← req, free-is s w q.laid x.committed x.working)
+          outcome = accepted_call p k (accepted left) ∙ rw (← req, free_is s w q.laid x.committed x.working)
 
           means : Same (plain_of y) (S.call p k).site
-          means = rw outcome (offer-means s w q.laid v.class i v lo hi (has-class v held) (here left).0 (here left).1 held refl (fits left) marked
-              x.committed x.working (requestOf v) (new-entry v new i))
+          means = rw outcome (offer_means s w q.laid v.class i v lo hi (has_class v held) (here left).0 (here left).1 held refl (fits left) marked
+              x.committed x.working (request_of v) (new_entry_lem v new i))
 
           -- the sums stay: the request waits
-          sums : (c : ℕ) → c < 16 → get_or s.sums c 0 ≡ confirmedCosts ((S.call p k).site.class c).queue
-          unfolding plain plainClass
-          sums c l = q.sums-right c l ∙ sym (offer-sum p (to-plain s w.slots w.queries q.laid x.committed x.working q) b (rw (accepted left)) c)
+          sums : (c : ℕ) → c < 16 → get_or s.sums c 0 ≡ confirmed_costs ((S.call p k).site.class c).queue
+          unfolding plain plain_class
+          sums c l = q.sums_right c l ∙ sym (offer_sum p (to_plain s w.slots w.queries q.laid x.committed x.working q) b (rw (accepted left)) c)
 
           pub offered : Did x k y (K.queued v.id v.class (len_of s v.class + 1) i)
-          unfolding K.offerStep plain plainClass
+          unfolding K.offer_step plain plain_class
           offered = record {
             cells = r;
-            sound = sound-kept x y k w (length-set s.slots i v ∙ w.slots) w.queries q
-                (offer-laid s w q.laid v.class i v lo hi (has-class v held) (here left).0 (here left).1 held refl (fits left) marked) means sums;
+            sound = sound_kept x y k w (length-set s.slots i v ∙ w.slots) w.queries q
+                (offer_laid s w q.laid v.class i v lo hi (has_class v held) (here left).0 (here left).1 held refl (fits left) marked) means sums;
             site = means;
-            answer = rw (outcome, length-map, places-length s w q.laid v.class (has-class v held));
+            answer = rw (outcome, length-map, places_length s w q.laid v.class (has_class v held));
           }
 
         -- the same, of a site and an answer that are equal to those
-        pub offered-as : (left : countUsed (usedOf s.low s.high) < 128) (i slot : ℕ) (y' : Store)
-            → i ≡ firstFree (usedOf s.low s.high) → y' ≡ placed s v.class i v y'.low y'.high
-            → usedOf y'.low y'.high ≡ set (usedOf s.low s.high) i true → slot ≡ i
+        pub offered_as : (left : count_used (used_of s.low s.high) < 128) (i slot : ℕ) (y' : Store)
+            → i ≡ first_free (used_of s.low s.high) → y' ≡ placed s v.class i v y'.low y'.high
+            → used_of y'.low y'.high ≡ set (used_of s.low s.high) i true → slot ≡ i
             → Did x k (record { site = y'; committed = x.committed; working = x.working }) (K.queued v.id v.class (len_of y' v.class) slot)
-        offered-as left i slot y' e is u sl =
-            let u' : usedOf y'.low y'.high ≡ set (usedOf s.low s.high) (firstFree (usedOf s.low s.high)) true = rw (← e) u in
-            let is' : y' ≡ placed s v.class (firstFree (usedOf s.low s.high)) v y'.low y'.high = rw (← e) is in
-            let at-end : len_of y' v.class ≡ len_of s v.class + 1 =
+        offered_as left i slot y' e is u sl =
+            let u' : used_of y'.low y'.high ≡ set (used_of s.low s.high) (first_free (used_of s.low s.high)) true = rw (← e) u in
+            let is' : y' ≡ placed s v.class (first_free (used_of s.low s.high)) v y'.low y'.high = rw (← e) is in
+            let at_end : len_of y' v.class ≡ len_of s v.class + 1 =
             ap (λ (z : Store). len_of z v.class) is'
-            ∙ get_or-set_same s.lens v.class (len_of s v.class + 1) 0 (omega (arith, w.lens, has-class v held)) in
-            rw (at-end, sl, e) (subst (λ (z : Store). Did x k (record { site = z; committed = x.committed; working = x.working })
-            (K.queued v.id v.class (len_of s v.class + 1) (firstFree (usedOf s.low s.high)))) (sym is')
+            ∙ get_or-set_same s.lens v.class (len_of s v.class + 1) 0 (omega (arith, w.lens, has_class v held)) in
+            rw (at_end, sl, e) (subst (λ (z : Store). Did x k (record { site = z; committed = x.committed; working = x.working })
+            (K.queued v.id v.class (len_of s v.class + 1) (first_free (used_of s.low s.high)))) (sym is')
             (offered left y'.low y'.high u'))

@@ -8,7 +8,7 @@ use lib.ListN.{length, get_or, drop, length-drop}
 use lib.Seq.{get_or-take, get_or-drop, length-take-le}
 use borrow.Author.Tests.{eqb-true}
 use Rattle.places.specs.Moves.{part}
-use Rattle.plain.proofs.Tests.{by-test}
+use Rattle.plain.proofs.Tests.{by_test}
 use Rattle.plain.specs.Sound.{All}
 use Rattle.store.specs.Meaning.{len_of, places}
 use Rattle.store.specs.Sound.{times}
@@ -17,7 +17,7 @@ use Rattle.store.specs.Store.{Shaped, Store}
 -- what holds of each in a list holds of what stands there
 pub each_at : (P : ℕ → Type 0) (i : ℕ) (ps : List ℕ) → All P ps → 0 < times i ps → P i
 each_at P i [] h n = absurd (omega arith)
-each_at P i (x ∷ ps) h n = by-test (eqb x i) (λ t. subst P (eqb-true x i t) h.0) (λ f. each_at P i ps h.1 (rw f at n))
+each_at P i (x ∷ ps) h n = by_test (eqb x i) (λ t. subst P (eqb-true x i t) h.0) (λ f. each_at P i ps h.1 (rw f at n))
 
 -- a place of the queue
 module _ (s : Store) (w : Shaped s) (c : ℕ) (l : c < 16) (short : len_of s c ≤ 136) where

@@ -1,41 +1,41 @@
 -- The rules as the parts of the check look at them. Assumes nothing.
 use Rattle.std.specs.Prelude.{ℕ, suc, ◌+◌, ◌*◌, ◌-◌, ◌%◌, ◌<◌, ◌≤◌, ◌≡◌, ◌⊎◌, ◌↔◌, Bool, true, false, cond, not, ◌&&◌, List, eqb, ltb, get_or, length, take}
-use Rattle.plain.specs.Sizes.{classCount, slotCount, queryCount, mostQueued, keptCount}
+use Rattle.plain.specs.Sizes.{class_count, slot_count, query_count, most_queued, kept_count}
 use Rattle.plain.specs.Site.{sum, named, Recent}
 use Rattle.plain.specs.Sound.{Head}
-use Rattle.usedmap.specs.Flags.{usedOf}
+use Rattle.usedmap.specs.Flags.{used_of}
 use Rattle.queries.specs.declared.Query.{Query}
-use Rattle.slots.specs.Meaning.{entry_of, freeSlot, isUsed, slot_at}
+use Rattle.slots.specs.Meaning.{entry_of, slot_free, is_used, slot_at}
 use Rattle.slots.specs.Rules.{Holds}
 use Rattle.slots.specs.declared.Slot.{Slot}
 use Rattle.places.specs.Moves.{part}
-use Rattle.store.specs.Meaning.{cells_of, queueOf, under}
+use Rattle.store.specs.Meaning.{cells_of, queue_of, under}
 use Rattle.store.specs.Sound.{Apart, Cells, Short, times}
-use Rattle.store.specs.Store.{Store, queryAt}
+use Rattle.store.specs.Store.{Store, query_at}
 
 -- slot i is used and of class c
 pub record Mine (s : Store) (c i : ℕ) : Type 0 where
-  pub used : isUsed (slot_at s.slots i) ≡ true
+  pub used : is_used (slot_at s.slots i) ≡ true
   pub class : (slot_at s.slots i).class ≡ c
 
 -- the query at index p has class c still to read
 abbrev pub Reading : Store → ℕ → ℕ → Type 0
-Reading s c p = named (queryAt s.queries p).classes c ≡ true
+Reading s c p = named (query_at s.queries p).classes c ≡ true
 
 -- what stands at a queue place b of class c: a slot that is its own, or a query that reads it
 abbrev pub Stays : Store → ℕ → ℕ → Type 0
-Stays s c b = ((b < slotCount) × Mine s c b) ⊎ ((slotCount ≤ b) × Reading s c (b - slotCount))
+Stays s c b = ((b < slot_count) × Mine s c b) ⊎ ((slot_count ≤ b) × Reading s c (b - slot_count))
 
 -- The rules as the walks look at them: over the fields of the slots, each a function of the slot, and over the queue places, place p of class c
 -- at 136 c + p
 abbrev pub ids_of : List Slot → ℕ → ℕ
 ids_of l i = (slot_at l i).id
 
-abbrev pub classesOf : List Slot → ℕ → ℕ
-classesOf l i = (slot_at l i).class
+abbrev pub classes_of : List Slot → ℕ → ℕ
+classes_of l i = (slot_at l i).class
 
-abbrev pub numbersOf : List Slot → ℕ → ℕ
-numbersOf l i = (slot_at l i).number
+abbrev pub numbers_of : List Slot → ℕ → ℕ
+numbers_of l i = (slot_at l i).number
 
 -- what stands at a place of a list, 0 past its end
 abbrev pub nth : List ℕ → ℕ → ℕ
@@ -43,78 +43,78 @@ nth l i = get_or l i 0
 
 -- of what a queue place b names: by what it stands in line; its done operations and mark, 0 for an entry; and the work calls that it takes where it is
 -- confirmed, else 0
-abbrev pub lineIn : List Slot → List Query → ℕ → ℕ
-lineIn l table b = cond (ltb b slotCount) (slot_at l b).number (queryAt table (b - slotCount)).begun
+abbrev pub line_in : List Slot → List Query → ℕ → ℕ
+line_in l table b = cond (ltb b slot_count) (slot_at l b).number (query_at table (b - slot_count)).begun
 
-abbrev pub doneIn : List Slot → ℕ → ℕ
-doneIn l b = cond (ltb b slotCount) (slot_at l b).done 0
+abbrev pub done_in : List Slot → ℕ → ℕ
+done_in l b = cond (ltb b slot_count) (slot_at l b).done 0
 
-abbrev pub markIn : List Slot → ℕ → ℕ
-markIn l b = cond (ltb b slotCount) (slot_at l b).mark 0
+abbrev pub mark_in : List Slot → ℕ → ℕ
+mark_in l b = cond (ltb b slot_count) (slot_at l b).mark 0
 
 abbrev pub due : (number count done : ℕ) → ℕ
 due number count done = cond (eqb number 0) 0 (count - done)
 
-abbrev pub dueIn : List Slot → ℕ → ℕ
-dueIn l b = cond (ltb b slotCount) (due (slot_at l b).number (slot_at l b).count (slot_at l b).done) (cond (ltb b mostQueued) 1 0)
+abbrev pub due_in : List Slot → ℕ → ℕ
+due_in l b = cond (ltb b slot_count) (due (slot_at l b).number (slot_at l b).count (slot_at l b).done) (cond (ltb b most_queued) 1 0)
 
 abbrev pub line_at : Store → ℕ → ℕ
-line_at s = lineIn s.slots s.queries
+line_at s = line_in s.slots s.queries
 
 -- each slot is free and all zero, or holds a valid record, and its count of times put back is not above `top`
 abbrev pub SlotsIn : List Slot → ℕ → Type 0
-SlotsIn l top = (i : ℕ) → i < slotCount → ((slot_at l i ≡ freeSlot) ⊎ Holds (slot_at l i)) × ((slot_at l i).backs ≤ top)
+SlotsIn l top = (i : ℕ) → i < slot_count → ((slot_at l i ≡ slot_free) ⊎ Holds (slot_at l i)) × ((slot_at l i).backs ≤ top)
 
 -- lists that hold the fields of the slots: id and class; the numbers; and of what queue places name
 pub record Owned (l : List Slot) (ids classes : List ℕ) : Type 0 where
   pub id : nth ids ≡ ids_of l
-  pub class : nth classes ≡ classesOf l
-  pub long : (length ids ≡ slotCount) × (length classes ≡ slotCount)
+  pub class : nth classes ≡ classes_of l
+  pub long : (length ids ≡ slot_count) × (length classes ≡ slot_count)
 
 pub record Staged (l : List Slot) (numbers : List ℕ) : Type 0 where
-  pub number : nth numbers ≡ numbersOf l
+  pub number : nth numbers ≡ numbers_of l
 
 pub record Lined (l : List Slot) (table : List Query) (lines dones marks dues : List ℕ) : Type 0 where
-  pub line : nth lines ≡ lineIn l table
-  pub done : nth dones ≡ doneIn l
-  pub mark : nth marks ≡ markIn l
-  pub due : nth dues ≡ dueIn l
+  pub line : nth lines ≡ line_in l table
+  pub done : nth dones ≡ done_in l
+  pub mark : nth marks ≡ mark_in l
+  pub due : nth dues ≡ due_in l
 
 -- a slot's class is one of the 16
 abbrev pub Classed : (ℕ → ℕ) → Type 0
-Classed class = (i : ℕ) → i < slotCount → class i < classCount
+Classed class = (i : ℕ) → i < slot_count → class i < class_count
 
 -- the map of used slots agrees
 abbrev pub MapOf : (low high : ℕ) → (ℕ → ℕ) → Type 0
-MapOf low high id = (i : ℕ) → i < slotCount → get_or (usedOf low high) i false ≡ not (eqb (id i) 0)
+MapOf low high id = (i : ℕ) → i < slot_count → get_or (used_of low high) i false ≡ not (eqb (id i) 0)
 
 -- how often b may stand in the queue of class c: once where it is a slot that is used and of that class, or a query that has it still to read
-abbrev pub mayStand : (used : ℕ → Bool) → (class : ℕ → ℕ) → List Query → ℕ → ℕ → ℕ
-mayStand used class table c b =
-    cond (ltb b slotCount) (cond (used b && eqb (class b) c) 1 0) (cond (named (queryAt table (b - slotCount)).classes c) 1 0)
+abbrev pub may_stand : (used : ℕ → Bool) → (class : ℕ → ℕ) → List Query → ℕ → ℕ → ℕ
+may_stand used class table c b =
+    cond (ltb b slot_count) (cond (used b && eqb (class b) c) 1 0) (cond (named (query_at table (b - slot_count)).classes c) 1 0)
 
 -- the flags of a map, and of ids
-abbrev pub flagOf : (low high : ℕ) → ℕ → Bool
-flagOf low high i = get_or (usedOf low high) i false
+abbrev pub flag_of : (low high : ℕ) → ℕ → Bool
+flag_of low high i = get_or (used_of low high) i false
 
-abbrev pub hasId : (ℕ → ℕ) → ℕ → Bool
-hasId id i = not (eqb (id i) 0)
+abbrev pub has_id : (ℕ → ℕ) → ℕ → Bool
+has_id id i = not (eqb (id i) 0)
 
 -- what may stand in a queue stands there, and as often
 abbrev pub OnceIn : (used : ℕ → Bool) → (class : ℕ → ℕ) → List Query → (queue lens : List ℕ) → Type 0
-OnceIn used class table queue lens = (c b : ℕ) → c < classCount → times b (take (nth lens c) (part queue c)) ≡ mayStand used class table c b
+OnceIn used class table queue lens = (c b : ℕ) → c < class_count → times b (take (nth lens c) (part queue c)) ≡ may_stand used class table c b
 
 -- The walk over the places takes what it passes from what may stand: what may still stand, by class and place
 -- b stood in the queue of class c, and is taken
 pub record TookOne (may rest : ℕ → ℕ → ℕ) (c b : ℕ) : Type 0 where
   pub own : suc (rest c b) ≡ may c b
   pub same_class : (x : ℕ) → (x ≡ b → ⊥) → rest c x ≡ may c x
-  pub others : (d x : ℕ) → d < classCount → (d ≡ c → ⊥) → rest d x ≡ may d x
+  pub others : (d x : ℕ) → d < class_count → (d ≡ c → ⊥) → rest d x ≡ may d x
 
 -- the first n places of class c are taken
 pub record Took (may rest : ℕ → ℕ → ℕ) (queue : List ℕ) (c n : ℕ) : Type 0 where
   pub own : (b : ℕ) → times b (take n (part queue c)) + rest c b ≡ may c b
-  pub others : (d b : ℕ) → d < classCount → (d ≡ c → ⊥) → rest d b ≡ may d b
+  pub others : (d b : ℕ) → d < class_count → (d ≡ c → ⊥) → rest d b ≡ may d b
 
 -- one of them stands there more often than it may
 abbrev pub TooOften : (may : ℕ → ℕ → ℕ) → List ℕ → (c n : ℕ) → Type 0
@@ -122,55 +122,55 @@ TooOften may queue c n = (b : ℕ) × (may c b < times b (take n (part queue c))
 
 -- what came of taking place b in the queue of class c, and of taking the first n places: all may stand, or one stands that may not
 pub record OneTaken (class : ℕ → ℕ) (lo hi : ℕ) (table : List Query) (c b : ℕ) (ok : Bool) (lo' hi' : ℕ) (table' : List Query) : Type 0 where
-  pub taken : ok ≡ true → TookOne (mayStand (flagOf lo hi) class table) (mayStand (flagOf lo' hi') class table') c b
-  pub barred : ok ≡ false → mayStand (flagOf lo hi) class table c b ≡ 0
+  pub taken : ok ≡ true → TookOne (may_stand (flag_of lo hi) class table) (may_stand (flag_of lo' hi') class table') c b
+  pub barred : ok ≡ false → may_stand (flag_of lo hi) class table c b ≡ 0
 
 -- an entry is of no class
 abbrev pub EntryTaken : (lo hi : ℕ) → List Query → (c b : ℕ) → Bool → (lo' hi' : ℕ) → List Query → Type 0
 EntryTaken lo hi table c b ok lo' hi' table' = (class : ℕ → ℕ) → OneTaken class lo hi table c b ok lo' hi' table'
 
 pub record ClassTaken (class : ℕ → ℕ) (lo hi : ℕ) (table : List Query) (queue : List ℕ) (c n : ℕ) (ok : Bool) (lo' hi' : ℕ) (table' : List Query) : Type 0 where
-  pub all-taken : ok ≡ true → Took (mayStand (flagOf lo hi) class table) (mayStand (flagOf lo' hi') class table') queue c n
-  pub one-barred : ok ≡ false → TooOften (mayStand (flagOf lo hi) class table) queue c n
+  pub all_taken : ok ≡ true → Took (may_stand (flag_of lo hi) class table) (may_stand (flag_of lo' hi') class table') queue c n
+  pub one_barred : ok ≡ false → TooOften (may_stand (flag_of lo hi) class table) queue c n
 
 -- a mask names no class; no query has one still to read
 abbrev pub NamesNone : ℕ → Type 0
-NamesNone mask = (c : ℕ) → c < classCount → named mask c ≡ false
+NamesNone mask = (c : ℕ) → c < class_count → named mask c ≡ false
 
 abbrev pub AllRead : List Query → Type 0
-AllRead table = (p : ℕ) → NamesNone (queryAt table p).classes
+AllRead table = (p : ℕ) → NamesNone (query_at table p).classes
 
 -- a place of queries that is free is all zero
 abbrev pub FreeIn : List Query → Type 0
-FreeIn table = (p : ℕ) → p < queryCount → (queryAt table p).classes ≡ 0 → (queryAt table p).begun ≡ 0
+FreeIn table = (p : ℕ) → p < query_count → (query_at table p).classes ≡ 0 → (query_at table p).begun ≡ 0
 
 -- a free slot has no number
 abbrev pub Unnumbered : (id number : ℕ → ℕ) → Type 0
-Unnumbered id number = (i : ℕ) → i < slotCount → id i ≡ 0 → number i ≡ 0
+Unnumbered id number = (i : ℕ) → i < slot_count → id i ≡ 0 → number i ≡ 0
 
 -- places from one to before another are zero; queue places past the end of their class are
 abbrev pub ZeroFrom : List ℕ → (from end : ℕ) → Type 0
 ZeroFrom queue from end = (k : ℕ) → k < end → from ≤ k → nth queue k ≡ 0
 
 abbrev pub Tails : (queue lens : List ℕ) → Type 0
-Tails queue lens = (c : ℕ) → c < classCount → ZeroFrom queue (mostQueued * c + nth lens c) (mostQueued * c + mostQueued)
+Tails queue lens = (c : ℕ) → c < class_count → ZeroFrom queue (most_queued * c + nth lens c) (most_queued * c + most_queued)
 
 -- ids differ, and confirmed numbers differ
 pub record Differ (id number : ℕ → ℕ) : Type 0 where
-  pub ids : Apart slotCount id
-  pub numbers : Apart slotCount number
+  pub ids : Apart slot_count id
+  pub numbers : Apart slot_count number
 
 -- what stands at queue place b, n being its line, is confirmed: it is an entry, or has a number
 abbrev pub stand : (b n : ℕ) → Bool
-stand b n = cond (ltb b slotCount) (ltb 0 n) true
+stand b n = cond (ltb b slot_count) (ltb 0 n) true
 
-abbrev pub confirmedAt : Store → ℕ → Bool
-confirmedAt s b = stand b (line_at s b)
+abbrev pub confirmed_at : Store → ℕ → Bool
+confirmed_at s b = stand b (line_at s b)
 
 -- y, with this line, done operations and mark, may stand directly behind x with the line `before`: it waits; or x is confirmed, and y a request with a
 -- number above x's line, or an entry that is not below it; and it has nothing done
 pub record Next (x before y line done mark : ℕ) : Type 0 where
-  pub order : (stand y line ≡ false) ⊎ ((stand x before ≡ true) × ((before < line) ⊎ ((slotCount ≤ y) × (before ≤ line))))
+  pub order : (stand y line ≡ false) ⊎ ((stand x before ≡ true) × ((before < line) ⊎ ((slot_count ≤ y) × (before ≤ line))))
   pub untouched : (done ≡ 0) × (mark ≡ 0)
 
 abbrev pub Behind : (line done mark : ℕ → ℕ) → (x y : ℕ) → Type 0
@@ -186,25 +186,25 @@ abbrev pub QueueOk : (line done mark : ℕ → ℕ) → List ℕ → (top a len 
 QueueOk line done mark queue top a len = (p : ℕ) → p < len → PlaceOk line done mark queue top a p
 
 abbrev pub PlacesOk : (line done mark : ℕ → ℕ) → (queue lens : List ℕ) → ℕ → Type 0
-PlacesOk line done mark queue lens top = (c : ℕ) → c < classCount → QueueOk line done mark queue top (mostQueued * c) (nth lens c)
+PlacesOk line done mark queue lens top = (c : ℕ) → c < class_count → QueueOk line done mark queue top (most_queued * c) (nth lens c)
 
 abbrev pub PlacesIn : Store → Type 0
-PlacesIn s = PlacesOk (line_at s) (doneIn s.slots) (markIn s.slots) s.queue s.lens s.confirmations
+PlacesIn s = PlacesOk (line_at s) (done_in s.slots) (mark_in s.slots) s.queue s.lens s.confirmations
 
 -- all places of such a queue name slots or queries, and of all queues
 abbrev pub Named : List ℕ → (a len : ℕ) → Type 0
-Named queue a len = (p : ℕ) → p < len → nth queue (a + p) < mostQueued
+Named queue a len = (p : ℕ) → p < len → nth queue (a + p) < most_queued
 
 abbrev pub InRange : (queue lens : List ℕ) → Type 0
-InRange queue lens = (c : ℕ) → c < classCount → Named queue (mostQueued * c) (nth lens c)
+InRange queue lens = (c : ℕ) → c < class_count → Named queue (most_queued * c) (nth lens c)
 
 -- the work calls that the confirmed part of a queue takes which begins at a
-unfoldable pub sumOf : (due : ℕ → ℕ) → List ℕ → (a len : ℕ) → ℕ
-sumOf due queue a len = sum (λ p. due (nth queue (a + p))) len
+unfoldable pub sum_over : (due : ℕ → ℕ) → List ℕ → (a len : ℕ) → ℕ
+sum_over due queue a len = sum (λ p. due (nth queue (a + p))) len
 
 -- the sum that stands with each class is that of its queue
 abbrev pub SumsIn : (due : ℕ → ℕ) → (queue lens sums : List ℕ) → Type 0
-SumsIn due queue lens sums = (c : ℕ) → c < classCount → nth sums c ≡ sumOf due queue (mostQueued * c) (nth lens c)
+SumsIn due queue lens sums = (c : ℕ) → c < class_count → nth sums c ≡ sum_over due queue (most_queued * c) (nth lens c)
 
 -- how many slots hold a number
 unfoldable pub numbered : (ℕ → ℕ) → ℕ → ℕ
@@ -213,19 +213,19 @@ numbered number n = sum (λ i. cond (eqb (number i) 0) 0 1) n
 -- The kept ids, as the walk over their places looks at them, after `top` confirmations
 -- a place is that of one of the last 256 numbers; or of one up to 256 that was not given yet
 abbrev pub InUse : ℕ → ℕ → Type 0
-InUse top p = (n : ℕ) × Recent top n × (n % keptCount ≡ p)
+InUse top p = (n : ℕ) × Recent top n × (n % kept_count ≡ p)
 
 abbrev pub Spare : ℕ → ℕ → Type 0
-Spare top p = (n : ℕ) × (top < n) × (n ≤ keptCount) × (n % keptCount ≡ p)
+Spare top p = (n : ℕ) × (top < n) × (n ≤ kept_count) × (n % kept_count ≡ p)
 
 -- kept ids are not 0, and unused places are zero
 pub record Filled (top : ℕ) (kept : List ℕ) : Type 0 where
-  pub not-zero : (n : ℕ) → Recent top n → 0 < under kept n
-  pub unused : (n : ℕ) → top < n → n ≤ keptCount → under kept n ≡ 0
+  pub not_zero : (n : ℕ) → Recent top n → 0 < under kept n
+  pub unused : (n : ℕ) → top < n → n ≤ kept_count → under kept n ≡ 0
 
 -- kept ids differ
 abbrev pub KeptApart : List ℕ → Type 0
-KeptApart kept = Apart keptCount (λ p. get_or kept p 0)
+KeptApart kept = Apart kept_count (λ p. get_or kept p 0)
 
 -- an id is among the first of them
 abbrev pub Among : List ℕ → ℕ → ℕ → Type 0
@@ -236,7 +236,7 @@ abbrev pub MatchesAll : ℕ → List ℕ → (number id : ℕ) → Type 0
 MatchesAll top kept number id = (n : ℕ) → Recent top n → (number ≡ n) ↔ (id ≡ under kept n)
 
 abbrev pub Matching : (id number : ℕ → ℕ) → ℕ → List ℕ → Type 0
-Matching id number top kept = (i : ℕ) → i < slotCount → not (eqb (id i) 0) ≡ true → MatchesAll top kept (number i) (id i)
+Matching id number top kept = (i : ℕ) → i < slot_count → not (eqb (id i) 0) ≡ true → MatchesAll top kept (number i) (id i)
 
 -- the rules of kept ids together
 pub record KeptOk (id number : ℕ → ℕ) (top : ℕ) (kept : List ℕ) : Type 0 where
@@ -249,36 +249,36 @@ pub record LaidOut (id class number line done mark due : ℕ → ℕ) (queue len
   pub short : Short lens
   pub tails : Tails queue lens
   pub map : MapOf low high id
-  pub once : OnceIn (hasId id) class table queue lens
+  pub once : OnceIn (has_id id) class table queue lens
   pub differ : Differ id number
   pub places : PlacesOk line done mark queue lens top
-  pub sums-right : SumsIn due queue lens sums
-  pub free-zero : FreeIn table
-  pub tally : top ≡ commits + numbered number slotCount
+  pub sums_right : SumsIn due queue lens sums
+  pub free_zero : FreeIn table
+  pub tally : top ≡ commits + numbered number slot_count
 
 abbrev pub LaidIn : Store → Type 0
 LaidIn s =
-    LaidOut (ids_of s.slots) (classesOf s.slots) (numbersOf s.slots) (line_at s) (doneIn s.slots) (markIn s.slots) (dueIn s.slots) s.queue s.lens s.sums
+    LaidOut (ids_of s.slots) (classes_of s.slots) (numbers_of s.slots) (line_at s) (done_in s.slots) (mark_in s.slots) (due_in s.slots) s.queue s.lens s.sums
     s.queries s.low s.high s.confirmations s.commits
 
 -- what stands at the head of class c; 128 where its queue is empty
 abbrev pub head_of : (queue lens : List ℕ) → ℕ → ℕ
-head_of queue lens c = cond (eqb (nth lens c) 0) slotCount (nth queue (mostQueued * c))
+head_of queue lens c = cond (eqb (nth lens c) 0) slot_count (nth queue (most_queued * c))
 
 abbrev pub Heads : (queue lens heads : List ℕ) → Type 0
-Heads queue lens heads = (c : ℕ) → c < classCount → nth heads c ≡ head_of queue lens c
+Heads queue lens heads = (c : ℕ) → c < class_count → nth heads c ≡ head_of queue lens c
 
 -- a slot that stands as head of a class holds a valid record
 abbrev pub HeadsHold : List Slot → List ℕ → Type 0
-HeadsHold slots heads = (c : ℕ) → c < classCount → nth heads c < slotCount → Holds (slot_at slots (nth heads c))
+HeadsHold slots heads = (c : ℕ) → c < class_count → nth heads c < slot_count → Holds (slot_at slots (nth heads c))
 
 -- a class's cells, by the slot at its head, or from 128 on where there is none
 pub record CellsAt (slots : List Slot) (head : ℕ) (base wrk : List ℕ) : Type 0 where
-  pub empty : slotCount ≤ head → wrk ≡ base
-  pub headed : head < slotCount → Head (entry_of head (slot_at slots head)) base wrk
+  pub empty : slot_count ≤ head → wrk ≡ base
+  pub headed : head < slot_count → Head (entry_of head (slot_at slots head)) base wrk
 
 abbrev pub HeadCells : List Slot → List ℕ → List ℕ → List ℕ → Type 0
-HeadCells slots heads base wrk = (c : ℕ) → c < classCount → CellsAt slots (nth heads c) (cells_of base c) (cells_of wrk c)
+HeadCells slots heads base wrk = (c : ℕ) → c < class_count → CellsAt slots (nth heads c) (cells_of base c) (cells_of wrk c)
 
 abbrev pub CellsOk : Store → List ℕ → List ℕ → Type 0
-CellsOk s base wrk = (c : ℕ) → c < 16 → Cells (queueOf s c) (cells_of base c) (cells_of wrk c)
+CellsOk s base wrk = (c : ℕ) → c < 16 → Cells (queue_of s c) (cells_of base c) (cells_of wrk c)

@@ -1,9 +1,9 @@
 -- What the steps do to the arrays and to a slot. Assumes nothing.
 use Rattle.std.specs.Prelude.{ℕ, ◌+◌, ◌*◌, ◌-◌, ◌%◌, ◌<◌, ◌≤◌, ◌≡◌, ◌⊎◌, cond, List, map, ltb, length, get_or, drop, set}
 use Rattle.std.proofs.Math.Option.{none}
-use Rattle.slots.specs.Steps.{triedBy}
+use Rattle.slots.specs.Steps.{tried_by}
 use Rattle.places.specs.Moves.{Moved}
-use Rattle.plain.specs.Sizes.{keptCount, wideWord}
+use Rattle.plain.specs.Sizes.{kept_count, wide_word}
 use Rattle.plain.specs.Ops.{Ran}
 use Rattle.plain.specs.Queue as Q
 use Rattle.plain.specs.Steps as K
@@ -31,8 +31,8 @@ placed s c i v lo hi = record {
 }
 
 -- slot i takes v, and nothing else changes
-abbrev pub withSlot : Store → ℕ → Slot → Store
-withSlot s i v = record {
+abbrev pub with_slot : Store → ℕ → Slot → Store
+with_slot s i v = record {
   slots = set s.slots i v;
   queue = s.queue;
   lens = s.lens;
@@ -47,8 +47,8 @@ withSlot s i v = record {
 }
 
 -- the sums are these, and nothing else changes
-abbrev pub withSums : Store → List ℕ → Store
-withSums s sums = record {
+abbrev pub with_sums : Store → List ℕ → Store
+with_sums s sums = record {
   slots = s.slots;
   queue = s.queue;
   lens = s.lens;
@@ -63,25 +63,25 @@ withSums s sums = record {
 }
 
 -- what stands at the head of class c: a slot, or from 128 on a query
-abbrev pub headSlot : Store → ℕ → ℕ
-headSlot s c = get_or s.queue (136 * c) 0
+abbrev pub head_slot : Store → ℕ → ℕ
+head_slot s c = get_or s.queue (136 * c) 0
 
 -- what its next operation comes to
-abbrev pub headTried : Store → List ℕ → ℕ → Ran
-headTried s wrk c = triedBy (slot_at s.slots (headSlot s c)) (cells_of wrk c)
+abbrev pub head_tried : Store → List ℕ → ℕ → Ran
+head_tried s wrk c = tried_by (slot_at s.slots (head_slot s c)) (cells_of wrk c)
 
 -- THE SUM that stands with class c, after a step there: a work call takes one off where the head is confirmed, which has this number; an entry that is
 -- read counts as confirmed
-abbrev pub oneLess : ℕ → ℕ → ℕ
-oneLess sum number = sum - cond (ltb 0 number) 1 0
+abbrev pub less_one : ℕ → ℕ → ℕ
+less_one sum number = sum - cond (ltb 0 number) 1 0
 
 -- a confirmation adds what its request, in slot i, still takes
-abbrev pub sumWith : Store → ℕ → ℕ → ℕ
-sumWith s c i = get_or s.sums c 0 + ((slot_at s.slots i).count - (slot_at s.slots i).done)
+abbrev pub sum_with : Store → ℕ → ℕ → ℕ
+sum_with s c i = get_or s.sums c 0 + ((slot_at s.slots i).count - (slot_at s.slots i).done)
 
 -- a query adds one for its entry
-abbrev pub withEntry : ℕ → ℕ
-withEntry sum = sum + 1
+abbrev pub with_entry : ℕ → ℕ
+with_entry sum = sum + 1
 
 -- class c has a head that may commit
 pub record Commitable (s : Store) (base wrk : List ℕ) (c : ℕ) : Type 0 where
@@ -91,14 +91,14 @@ pub record Commitable (s : Store) (base wrk : List ℕ) (c : ℕ) : Type 0 where
   pub cells : (length base ≡ 1024) × (length wrk ≡ 1024)
   pub count : s.commits < 4294967295
   -- the head is a request
-  pub request : headSlot s c < 128
+  pub request : head_slot s c < 128
 
 -- laid out again, and the plain commit of class c
 pub record CommitDone (s : Store) (base wrk : List ℕ) (c : ℕ) (t : Store) (base' : List ℕ) : Type 0 where
   pub laid : Laid t
   pub slots : length t.slots ≡ length s.slots
   pub cells : length base' ≡ 1024
-  pub site : (e : Q.Entry) → Same (plain t base' wrk) (S.inClass (plain s base wrk) c none (K.commit (Q.booking e) (items s.slots s.queries (drop 1 (places s c))) (cells_of wrk c))).site
+  pub site : (e : Q.Entry) → Same (plain t base' wrk) (S.in_class (plain s base wrk) c none (K.commit (Q.booking e) (items s.slots s.queries (drop 1 (places s c))) (cells_of wrk c))).site
   pub queries : t.queries ≡ s.queries
   pub sums : t.sums ≡ s.sums
 
@@ -117,8 +117,8 @@ pub record Countable (s : Store) (c : ℕ) : Type 0 where
 abbrev pub with_number : ℕ → Slot → Slot
 with_number n v = record { id = v.id; class = v.class; count = v.count; ops = v.ops; number = n; done = v.done; mark = v.mark; backs = v.backs }
 
-abbrev pub asPutBack : Slot → Slot
-asPutBack v = record { id = v.id; class = v.class; count = v.count; ops = v.ops; number = v.number; done = 0; mark = 0; backs = v.backs + 1 }
+abbrev pub as_put_back : Slot → Slot
+as_put_back v = record { id = v.id; class = v.class; count = v.count; ops = v.ops; number = v.number; done = 0; mark = 0; backs = v.backs + 1 }
 
 -- class c has a head that may be put back: one more fits its count
 pub record Backable (s : Store) (base wrk : List ℕ) (c : ℕ) : Type 0 where
@@ -127,19 +127,19 @@ pub record Backable (s : Store) (base wrk : List ℕ) (c : ℕ) : Type 0 where
   pub some : 0 < len_of s c
   pub cells : (length base ≡ 1024) × (length wrk ≡ 1024)
   -- the head is a request
-  pub request : headSlot s c < 128
-  pub fits : (slot_at s.slots (headSlot s c)).backs + 1 < wideWord
+  pub request : head_slot s c < 128
+  pub fits : (slot_at s.slots (head_slot s c)).backs + 1 < wide_word
 
 -- class c's head is put back: its slot, and the working cells of the class
 pub record PutBack (s : Store) (base wrk : List ℕ) (c : ℕ) (t : Store) (wrk' : List ℕ) : Type 0 where
-  pub is : t ≡ withSlot s (headSlot s c) (asPutBack (slot_at s.slots (headSlot s c)))
+  pub is : t ≡ with_slot s (head_slot s c) (as_put_back (slot_at s.slots (head_slot s c)))
   pub cells : length wrk' ≡ 1024
   pub own : cells_of wrk' c ≡ cells_of base c
   pub others : (d : ℕ) → (d ≡ c → ⊥) → cells_of wrk' d ≡ cells_of wrk d
 
 -- slot i has its number, its id is kept under it, and one confirmation more is counted
-abbrev pub numberedStore : Store → ℕ → ℕ → Store
-numberedStore s i n = record {
+abbrev pub numbered_store : Store → ℕ → ℕ → Store
+numbered_store s i n = record {
   slots = set s.slots i (with_number n (slot_at s.slots i));
   queue = s.queue;
   lens = s.lens;
@@ -147,7 +147,7 @@ numberedStore s i n = record {
   high = s.high;
   confirmations = s.confirmations + 1;
   commits = s.commits;
-  kept = set s.kept (n % keptCount) (slot_at s.slots i).id;
+  kept = set s.kept (n % kept_count) (slot_at s.slots i).id;
   queries = s.queries;
   begun = s.begun;
   sums = s.sums;
@@ -199,13 +199,13 @@ WaitingLast s c =
 
 -- slot i of class c has its number, its place `from` has moved forward to `to`, its id is kept, and one confirmation more is counted
 pub record Forward (s : Store) (c i n from to : ℕ) (t : Store) : Type 0 where
-  pub slots : t.slots ≡ (numberedStore s i n).slots
+  pub slots : t.slots ≡ (numbered_store s i n).slots
   pub queue : Moved s.queue t.queue c from to
   pub lens : t.lens ≡ s.lens
   pub map : (t.low ≡ s.low) × (t.high ≡ s.high)
   pub confirmations : t.confirmations ≡ s.confirmations + 1
   pub commits : t.commits ≡ s.commits
-  pub kept : t.kept ≡ (numberedStore s i n).kept
+  pub kept : t.kept ≡ (numbered_store s i n).kept
   pub queries : t.queries ≡ s.queries
   pub begun : t.begun ≡ s.begun
-  pub sums : t.sums ≡ (numberedStore s i n).sums
+  pub sums : t.sums ≡ (numbered_store s i n).sums

@@ -5,19 +5,19 @@ use mathlib.Core.Path.{◌≡◌, refl, sym, ap, ◌∙◌}
 use mathlib.Core.Bool.{true, false}
 use mathlib.Core.List.{List, [], ◌∷◌, ◌++◌, map}
 use lib.ListN.{length, get_or, length-append}
-use Rattle.plain.specs.Ops.{Op, put, add, need, move, Request, opOk, valid}
-use Rattle.plain.specs.Record.{usesSecond, names}
+use Rattle.plain.specs.Ops.{Op, put, add, need, move, Request, op_ok, valid}
+use Rattle.plain.specs.Record.{uses_second, names}
 use Rattle.plain.specs.Sound.{All}
-use Rattle.plain.proofs.Tests.{by-test, no}
-use Rattle.plain.proofs.Items.{is-valid}
+use Rattle.plain.proofs.Tests.{by_test, no}
+use Rattle.plain.proofs.Items.{is_valid}
 use Rattle.decimal.specs.Decimal.{decimal, blanked}
 use Rattle.decimal.proofs.Runs.{same_number, at_most}
 use Rattle.cells.specs.Ops.{op_of}
-use Rattle.text.specs.Text.{blank, newline, opLine, opLines, headLine, text_of}
-use Rattle.text.specs.Pieces.{secondBefore}
-use Rattle.text.proofs.Forms.{seconds, code-line, head-pieces, blanked-short, short}
-use Rattle.text.proofs.Pieces.{struct_of, struct_ok, struct-line, same_name, blank-splits, newline-splits, line_before, behindName, head-before}
-use Rattle.text.proofs.Standing.{line-long, op-line, head-rules}
+use Rattle.text.specs.Text.{blank, newline, op_line, op_lines, head_line, text_of}
+use Rattle.text.specs.Pieces.{second_before}
+use Rattle.text.proofs.Forms.{seconds, code_line_lem, head_pieces, blanked_short, short}
+use Rattle.text.proofs.Pieces.{struct_of, struct_ok, struct_line, same_name, blank_splits, newline_splits, line_before, behind_name, head_before}
+use Rattle.text.proofs.Standing.{line_long, op_line_lem, head_rules}
 
 -- what the struct of an operation has
 known : (o : Op) → (1 ≤ (struct_of o).code) × ((struct_of o).code ≤ 4)
@@ -26,7 +26,7 @@ known (add k a) = (omega arith, omega arith)
 known (need k a) = (omega arith, omega arith)
 known (move k j a) = (omega arith, omega arith)
 
-unused : (o : Op) → get_or usesSecond (struct_of o).code false ≡ false → (struct_of o).second ≡ 0
+unused : (o : Op) → get_or uses_second (struct_of o).code false ≡ false → (struct_of o).second ≡ 0
 unused (put k a) e = refl
 unused (add k a) e = refl
 unused (need k a) e = refl
@@ -39,56 +39,56 @@ back (need k a) = refl
 back (move k j a) = refl
 
 -- a second cell is told by what stands there
-same_second : (code i j : ℕ) (r s : List ℕ) → (get_or usesSecond code false ≡ false → (i ≡ 0) × (j ≡ 0)) → secondBefore code i r ≡ secondBefore code j s
+same_second : (code i j : ℕ) (r s : List ℕ) → (get_or uses_second code false ≡ false → (i ≡ 0) × (j ≡ 0)) → second_before code i r ≡ second_before code j s
     → (i ≡ j) × (r ≡ s)
 same_second code i j r s z e =
-    by-test (get_or usesSecond code false)
-    (λ t. let q = same_number i j blank blank r s blank-splits blank-splits (rw t at e) in (q.0, q.2))
+    by_test (get_or uses_second code false)
+    (λ t. let q = same_number i j blank blank r s blank_splits blank_splits (rw t at e) in (q.0, q.2))
     (λ f. let q = z f in (q.0 ∙ sym q.1, rw f at e))
 
 -- and so are an operation and what follows its line
-same_op : (o p : Op) (r s : List ℕ) → opLine o ++ r ≡ opLine p ++ s → (o ≡ p) × (r ≡ s)
+same_op : (o p : Op) (r s : List ℕ) → op_line o ++ r ≡ op_line p ++ s → (o ≡ p) × (r ≡ s)
 same_op o p r s e =
     let a = struct_of o in
     let b = struct_of p in
-    let before : (q : Op) (t : List ℕ) → opLine q ++ t ≡ get_or names (struct_of q).code [] ++ (blank ∷ behindName (struct_of q) t) =
-    λ q t. ap (λ (x : List ℕ). x ++ t) (sym (struct-line q))
+    let before : (q : Op) (t : List ℕ) → op_line q ++ t ≡ get_or names (struct_of q).code [] ++ (blank ∷ behind_name (struct_of q) t) =
+    λ q t. ap (λ (x : List ℕ). x ++ t) (sym (struct_line q))
     ∙ line_before (struct_of q).code (struct_of q).cell (struct_of q).second (struct_of q).amount t in
     let name =
-    same_name a.code b.code (behindName a r) (behindName b s) (known o).0 (known o).1 (known p).0 (known p).1
+    same_name a.code b.code (behind_name a r) (behind_name b s) (known o).0 (known o).1 (known p).0 (known p).1
     (sym (before o r) ∙ e ∙ before p s) in
-    let cell = same_number a.cell b.cell blank blank _ _ blank-splits blank-splits name.1 in
+    let cell = same_number a.cell b.cell blank blank _ _ blank_splits blank_splits name.1 in
     let second =
     same_second a.code a.second b.second (decimal a.amount ++ (newline ∷ r)) (decimal b.amount ++ (newline ∷ s))
     (λ f. (unused o f, unused p (rw name.0 at f)))
-    (cell.2 ∙ ap (λ (c : ℕ). secondBefore c b.second (decimal b.amount ++ (newline ∷ s))) (sym name.0)) in
-    let amount = same_number a.amount b.amount newline newline r s newline-splits newline-splits second.1 in
+    (cell.2 ∙ ap (λ (c : ℕ). second_before c b.second (decimal b.amount ++ (newline ∷ s))) (sym name.0)) in
+    let amount = same_number a.amount b.amount newline newline r s newline_splits newline_splits second.1 in
     let same : a ≡ b = λ i. record { code = name.0 i; cell = cell.0 i; second = second.0 i; amount = amount.0 i } in
     (sym (back o) ∙ ap op_of same ∙ back p, amount.2)
 
-same-ops : (os ps : List Op) → opLines os ≡ opLines ps → os ≡ ps
-same-ops [] [] e = refl
-same-ops [] (p ∷ ps) e = absurd (omega (arith, ap length e, length-append (opLine p) (opLines ps), line-long (opLine p) (op-line p)))
-same-ops (o ∷ os) [] e = absurd (omega (arith, ap length e, length-append (opLine o) (opLines os), line-long (opLine o) (op-line o)))
-same-ops (o ∷ os) (p ∷ ps) e =
-    let q = same_op o p (opLines os) (opLines ps) e in
+same_ops : (os ps : List Op) → op_lines os ≡ op_lines ps → os ≡ ps
+same_ops [] [] e = refl
+same_ops [] (p ∷ ps) e = absurd (omega (arith, ap length e, length-append (op_line p) (op_lines ps), line_long (op_line p) (op_line_lem p)))
+same_ops (o ∷ os) [] e = absurd (omega (arith, ap length e, length-append (op_line o) (op_lines os), line_long (op_line o) (op_line_lem o)))
+same_ops (o ∷ os) (p ∷ ps) e =
+    let q = same_op o p (op_lines os) (op_lines ps) e in
     let first : o ≡ p = q.0 in
-    let rest : os ≡ ps = same-ops os ps q.1 in
+    let rest : os ≡ ps = same_ops os ps q.1 in
     cc
 
-pub one-request : (r s : Request) → text_of r ≡ text_of s → r ≡ s
+pub one_request : (r s : Request) → text_of r ≡ text_of s → r ≡ s
 unfolding text_of
-one-request r s e =
+one_request r s e =
     let id =
-    same_number r.id s.id blank blank _ _ blank-splits blank-splits
-    (sym (head-before r.id r.class (opLines r.ops)) ∙ e ∙ head-before s.id s.class (opLines s.ops)) in
-    let class = same_number r.class s.class newline newline _ _ newline-splits newline-splits id.2 in
-    let ops = same-ops r.ops s.ops class.2 in
+    same_number r.id s.id blank blank _ _ blank_splits blank_splits
+    (sym (head_before r.id r.class (op_lines r.ops)) ∙ e ∙ head_before s.id s.class (op_lines s.ops)) in
+    let class = same_number r.class s.class newline newline _ _ newline_splits newline_splits id.2 in
+    let ops = same_ops r.ops s.ops class.2 in
     λ i. record { id = id.0 i; class = class.0 i; ops = ops i }
 
 -- HOW LONG
-op-short : (o : Op) → opOk o ≡ true → length (opLine o) ≤ 22
-op-short o h =
+op_short : (o : Op) → op_ok o ≡ true → length (op_line o) ≤ 22
+op_short o h =
     let a = struct_of o in
     let s = short a (struct_ok o h) in
     let name = get_or names a.code [] in
@@ -97,7 +97,7 @@ op-short o h =
     let amount = blanked (a.amount ∷ []) in
     omega (
       arith,
-      ap length (sym (struct-line o) ∙ code-line a.code a.cell a.second a.amount),
+      ap length (sym (struct_line o) ∙ code_line_lem a.code a.cell a.second a.amount),
       length-append name (cell ++ (second ++ (amount ++ (newline ∷ [])))),
       length-append cell (second ++ (amount ++ (newline ∷ []))),
       length-append second (amount ++ (newline ∷ [])),
@@ -108,25 +108,25 @@ op-short o h =
       s.amount,
     )
 
-ops-short : (os : List Op) → All (λ b. b ≡ true) (map opOk os) → length (opLines os) ≤ 22 * length os
-ops-short [] h = omega arith
-ops-short (o ∷ os) h = omega (arith, length-append (opLine o) (opLines os), op-short o h.0, ops-short os h.1)
+ops_short : (os : List Op) → All (λ b. b ≡ true) (map op_ok os) → length (op_lines os) ≤ 22 * length os
+ops_short [] h = omega arith
+ops_short (o ∷ os) h = omega (arith, length-append (op_line o) (op_lines os), op_short o h.0, ops_short os h.1)
 
-pub at-most-168 : (r : Request) → valid r ≡ true → length (text_of r) ≤ 168
+pub at_most_168 : (r : Request) → valid r ≡ true → length (text_of r) ≤ 168
 unfolding text_of
-at-most-168 r v =
-    let w = is-valid r v in
-    let h = head-rules r v in
+at_most_168 r v =
+    let w = is_valid r v in
+    let h = head_rules r v in
     let id = decimal r.id in
     let class = blanked (r.class ∷ []) in
     omega (
       arith,
-      length-append (headLine r.id r.class) (opLines r.ops),
-      ap length (sym (head-pieces r.id r.class)),
+      length-append (head_line r.id r.class) (op_lines r.ops),
+      ap length (sym (head_pieces r.id r.class)),
       length-append (id ++ class) (newline ∷ []),
       length-append id class,
-      at_most r.id 10 (omega arith) (omega (arith, h.id-fits)),
-      blanked-short r.class 2 (omega arith) (omega (arith, h.class-fits)),
-      ops-short r.ops w.ops,
-      w.few-ops,
+      at_most r.id 10 (omega arith) (omega (arith, h.id_fits)),
+      blanked_short r.class 2 (omega arith) (omega (arith, h.class_fits)),
+      ops_short r.ops w.ops,
+      w.few_ops,
     )

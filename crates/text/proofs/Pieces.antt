@@ -10,18 +10,18 @@ use lib.ListN.{length, get_or, take, drop, length-append, length-drop, take-appe
 use lib.Seq.{take-suc, take_all, drop-cons, drop-drop, drop-append_seam, get_or-append_seam}
 use borrow.Author.Tests.{ltb-true, ltb-false}
 use Rattle.plain.specs.Ops as P
-use Rattle.plain.specs.Record.{usesSecond, names}
+use Rattle.plain.specs.Record.{uses_second, names}
 use Rattle.plain.specs.Decides.{Decides}
-use Rattle.plain.proofs.Tests.{by-test, no}
-use Rattle.plain.proofs.Deciding.{decides-as, decides_eq}
+use Rattle.plain.proofs.Tests.{by_test, no}
+use Rattle.plain.proofs.Deciding.{decides_as, decides_eq}
 use Rattle.decimal.specs.Decimal.{decimal, blanked, NumberAt}
 use Rattle.decimal.proofs.Runs.{Digit, same_number}
 use Rattle.cells.specs.declared.Op.{Op}
 use Rattle.cells.specs.Ops.{OpOk}
 use Rattle.cells.proofs.Ops.{facts}
-use Rattle.text.specs.Text.{blank, newline, lineWith, headLine, codeLine, opLine}
-use Rattle.text.specs.Pieces.{line_of, Begins, NameAt, secondBefore, SecondAt, OpLineAt}
-use Rattle.text.proofs.Forms.{one-blanked, none-blanked, seconds, code-line}
+use Rattle.text.specs.Text.{blank, newline, line_with, head_line, code_line, op_line}
+use Rattle.text.specs.Pieces.{line_of, Begins, NameAt, second_before, SecondAt, OpLineAt}
+use Rattle.text.proofs.Forms.{one_blanked, none_blanked, seconds, code_line_lem}
 
 -- A WORD WITH A BLANK BEHIND IT
 module _ (l word : List ℕ) where
@@ -31,13 +31,13 @@ module _ (l word : List ℕ) where
   pub letter : (i : ℕ) → i < length word → Begins word l → get_or l i 0 ≡ get_or word i 0
   letter i h b = ap (λ (t : List ℕ). get_or t i 0) b.1 ∙ get_or-append word (blank ∷ b.0) 0 i h
 
-  pub one-letter-more : (i : ℕ) → i < length l → i < length word → get_or l i 0 ≡ get_or word i 0 → take i l ≡ take i word
+  pub one_letter_more : (i : ℕ) → i < length l → i < length word → get_or l i 0 ≡ get_or word i 0 → take i l ≡ take i word
       → take (i + 1) l ≡ take (i + 1) word
-  one-letter-more i h k e f = rw (add-one, take-suc l i 0 h, take-suc word i 0 k, e, f)
+  one_letter_more i h k e f = rw (add-one, take-suc l i 0 h, take-suc word i 0 k, e, f)
 
-  pub decides-blank : (i : ℕ) → i ≡ length word → i < length l → take i l ≡ take i word → Decides (eqb (get_or l i 0) blank) (Begins word l)
-  decides-blank i e h f =
-      decides-as
+  pub decides_blank : (i : ℕ) → i ≡ length word → i < length l → take i l ≡ take i word → Decides (eqb (get_or l i 0) blank) (Begins word l)
+  decides_blank i e h f =
+      decides_as
       (λ q. (
         drop (suc i) l,
         sym (take-append-drop i l) ∙ rw (f, take_all i word (omega arith), drop-cons l i 0 h, q),
@@ -46,8 +46,8 @@ module _ (l word : List ℕ) where
       (decides_eq (get_or l i 0) blank)
 
 -- what stands behind it
-pub behind-word : (text word rest : List ℕ) (at : ℕ) → drop at text ≡ word ++ (blank ∷ rest) → drop (at + length word + 1) text ≡ rest
-behind-word text word rest at e =
+pub behind_word : (text word rest : List ℕ) (at : ℕ) → drop at text ≡ word ++ (blank ∷ rest) → drop (at + length word + 1) text ≡ rest
+behind_word text word rest at e =
     let m : at + length word + 1 ≡ at + (length word + 1) = omega arith in
     let w : length (word ++ (blank ∷ [])) ≡ length word + 1 = length-append word (blank ∷ []) in
     rw m
@@ -59,20 +59,20 @@ pub room : (text word rest : List ℕ) (at : ℕ) → drop at text ≡ word ++ (
 room text word rest at e = omega (arith, length-drop at text, ap length e, length-append word (blank ∷ rest))
 
 -- A NAME
-by-four : (X : ℕ → Type 0) → X 1 → X 2 → X 3 → X 4 → (c : ℕ) → 1 ≤ c → c ≤ 4 → X c
-by-four X x y z w zero l m = absurd (omega arith)
-by-four X x y z w (suc zero) l m = x
-by-four X x y z w (suc (suc zero)) l m = y
-by-four X x y z w (suc (suc (suc zero))) l m = z
-by-four X x y z w (suc (suc (suc (suc zero)))) l m = w
-by-four X x y z w (suc (suc (suc (suc (suc c))))) l m = absurd (omega arith)
+by_four : (X : ℕ → Type 0) → X 1 → X 2 → X 3 → X 4 → (c : ℕ) → 1 ≤ c → c ≤ 4 → X c
+by_four X x y z w zero l m = absurd (omega arith)
+by_four X x y z w (suc zero) l m = x
+by_four X x y z w (suc (suc zero)) l m = y
+by_four X x y z w (suc (suc (suc zero))) l m = z
+by_four X x y z w (suc (suc (suc (suc zero)))) l m = w
+by_four X x y z w (suc (suc (suc (suc (suc c))))) l m = absurd (omega arith)
 
 -- the code of a name's first letter
 abbrev code_of : ℕ → ℕ
 code_of x = cond (eqb x 112) 1 (cond (eqb x 97) 2 (cond (eqb x 110) 3 4))
 
-first-letter : (c : ℕ) → 1 ≤ c → c ≤ 4 → (t : List ℕ) → code_of (get_or (get_or names c [] ++ t) 0 0) ≡ c
-first-letter = by-four (λ c. (t : List ℕ) → code_of (get_or (get_or names c [] ++ t) 0 0) ≡ c) (λ t. refl) (λ t. refl) (λ t. refl) (λ t. refl)
+first_letter : (c : ℕ) → 1 ≤ c → c ≤ 4 → (t : List ℕ) → code_of (get_or (get_or names c [] ++ t) 0 0) ≡ c
+first_letter = by_four (λ c. (t : List ℕ) → code_of (get_or (get_or names c [] ++ t) 0 0) ≡ c) (λ t. refl) (λ t. refl) (λ t. refl) (λ t. refl)
 
 cancel : (a b c : List ℕ) → a ++ b ≡ a ++ c → b ≡ c
 cancel a b c e = sym (drop-append_seam a b) ∙ ap (drop (length a)) e ∙ drop-append_seam a c
@@ -81,17 +81,17 @@ pub same_name : (c d : ℕ) (r s : List ℕ) → 1 ≤ c → c ≤ 4 → 1 ≤ d
     → (c ≡ d) × (r ≡ s)
 same_name c d r s h i j k e =
     let q : c ≡ d =
-    sym (first-letter c h i (blank ∷ r)) ∙ ap (λ (t : List ℕ). code_of (get_or t 0 0)) e ∙ first-letter d j k (blank ∷ s) in
+    sym (first_letter c h i (blank ∷ r)) ∙ ap (λ (t : List ℕ). code_of (get_or t 0 0)) e ∙ first_letter d j k (blank ∷ s) in
     let f : get_or names d [] ++ (blank ∷ r) ≡ get_or names d [] ++ (blank ∷ s) = rw (← q) (rw (← q) at e) in
     let g : blank ∷ r ≡ blank ∷ s = cancel (get_or names d []) (blank ∷ r) (blank ∷ s) f in
     (q, (cc))
 
 -- A NUMBER
-pub blank-splits : Digit blank → ⊥
-blank-splits d = omega (arith, d.0)
+pub blank_splits : Digit blank → ⊥
+blank_splits d = omega (arith, d.0)
 
-pub newline-splits : Digit newline → ⊥
-newline-splits d = omega (arith, d.0)
+pub newline_splits : Digit newline → ⊥
+newline_splits d = omega (arith, d.0)
 
 pub number_is : (t more rest : List ℕ) (stop most v n : ℕ) (ok : Bool) → (Digit stop → ⊥) → NumberAt t stop most ok v rest → ok ≡ true
     → t ≡ decimal n ++ (stop ∷ more) → (v ≡ n) × (rest ≡ more)
@@ -99,17 +99,17 @@ number_is t more rest stop most v n ok s a y e =
     let i = same_number v n stop stop rest more s s (sym (a.stands y) ∙ e) in (i.0, i.2)
 
 -- A SECOND CELL
-pub second-used : (t rest : List ℕ) (code v : ℕ) (ok : Bool) → get_or usesSecond code false ≡ true → NumberAt t blank 255 ok v rest
+pub second_used : (t rest : List ℕ) (code v : ℕ) (ok : Bool) → get_or uses_second code false ≡ true → NumberAt t blank 255 ok v rest
     → SecondAt t code ok v rest
-second-used t rest code v ok y a = record {
+second_used t rest code v ok y a = record {
   small = a.small;
   stands = λ e. rw y (a.stands e);
   unused = λ f. no _ y f;
   none = λ e j more h q. a.none e j more h (rw y at q);
 }
 
-pub second-unused : (t : List ℕ) (code : ℕ) → get_or usesSecond code false ≡ false → SecondAt t code true 0 t
-second-unused t code f = record {
+pub second_unused : (t : List ℕ) (code : ℕ) → get_or uses_second code false ≡ false → SecondAt t code true 0 t
+second_unused t code f = record {
   small = omega arith;
   stands = λ e. rw f;
   unused = λ e. refl;
@@ -117,57 +117,57 @@ second-unused t code f = record {
 }
 
 pub second_is : (t more rest : List ℕ) (code v j : ℕ) (ok : Bool) → SecondAt t code ok v rest → ok ≡ true
-    → (get_or usesSecond code false ≡ false → j ≡ 0) → t ≡ secondBefore code j more → (v ≡ j) × (rest ≡ more)
+    → (get_or uses_second code false ≡ false → j ≡ 0) → t ≡ second_before code j more → (v ≡ j) × (rest ≡ more)
 second_is t more rest code v j ok a y z e =
-    by-test (get_or usesSecond code false)
+    by_test (get_or uses_second code false)
     (λ u.
-    let i = same_number v j blank blank rest more blank-splits blank-splits (sym (rw u at (a.stands y)) ∙ (rw u at e)) in
+    let i = same_number v j blank blank rest more blank_splits blank_splits (sym (rw u at (a.stands y)) ∙ (rw u at e)) in
     (i.0, i.2))
     (λ f. (a.unused f ∙ sym (z f), sym (rw f at (a.stands y)) ∙ (rw f at e)))
 
 -- THE LINE OF AN OPERATION, before what follows it
-pub line_before : (code k j a : ℕ) (more : List ℕ) → codeLine code k j a ++ more
-    ≡ get_or names code [] ++ (blank ∷ (decimal k ++ (blank ∷ secondBefore code j (decimal a ++ (newline ∷ more)))))
+pub line_before : (code k j a : ℕ) (more : List ℕ) → code_line code k j a ++ more
+    ≡ get_or names code [] ++ (blank ∷ (decimal k ++ (blank ∷ second_before code j (decimal a ++ (newline ∷ more)))))
 line_before code k j a more =
-    ap (λ (t : List ℕ). t ++ more) (code-line code k j a)
+    ap (λ (t : List ℕ). t ++ more) (code_line_lem code k j a)
     ∙ regroup (get_or names code []) (blanked (k ∷ [])) (blanked (seconds code j)) (blanked (a ∷ [])) (newline ∷ []) more
-    ∙ by-test (get_or usesSecond code false)
-    (λ t. rw (t, one-blanked k, one-blanked j, one-blanked a))
-    (λ f. rw (f, one-blanked k, none-blanked, one-blanked a))
+    ∙ by_test (get_or uses_second code false)
+    (λ t. rw (t, one_blanked k, one_blanked j, one_blanked a))
+    (λ f. rw (f, one_blanked k, none_blanked, one_blanked a))
   where
     regroup : (n k j a e more : List ℕ) → (n ++ (k ++ (j ++ (a ++ e)))) ++ more ≡ n ++ (k ++ (j ++ (a ++ (e ++ more))))
     regroup n k j a e more = simp append_assoc
 
 -- what stands behind the name of an operation's line
-abbrev pub behindName : Op → List ℕ → List ℕ
-behindName p more = decimal p.cell ++ (blank ∷ secondBefore p.code p.second (decimal p.amount ++ (newline ∷ more)))
+abbrev pub behind_name : Op → List ℕ → List ℕ
+behind_name p more = decimal p.cell ++ (blank ∷ second_before p.code p.second (decimal p.amount ++ (newline ∷ more)))
 
-pub name-is : (l rest more : List ℕ) (code : ℕ) (p : Op) → NameAt l code rest → 1 ≤ code → OpOk p → l ≡ line_of p ++ more
-    → (code ≡ p.code) × (rest ≡ behindName p more)
-name-is l rest more code p a h ok e =
+pub name_is : (l rest more : List ℕ) (code : ℕ) (p : Op) → NameAt l code rest → 1 ≤ code → OpOk p → l ≡ line_of p ++ more
+    → (code ≡ p.code) × (rest ≡ behind_name p more)
+name_is l rest more code p a h ok e =
     let f = facts ok in
-    same_name code p.code rest (behindName p more) h a.known f.known.0 f.known.1
+    same_name code p.code rest (behind_name p more) h a.known f.known.0 f.known.1
     (sym (a.stands h) ∙ e ∙ line_before p.code p.cell p.second p.amount more)
 
 -- an operation's second cell is zero where its code uses none, and it fits a byte
-pub no_second : (p : Op) → OpOk p → get_or usesSecond p.code false ≡ false → p.second ≡ 0
+pub no_second : (p : Op) → OpOk p → get_or uses_second p.code false ≡ false → p.second ≡ 0
 no_second p ok e =
     let f = facts ok in
-    by-test (ltb p.code 4)
+    by_test (ltb p.code 4)
     (λ y. f.zero (ltb-true _ _ y))
     (λ n. let q : p.code ≡ 4 = omega (arith, ltb-false p.code 4 n) in no _ (rw q) e)
 
-pub second-small : (p : Op) → OpOk p → p.second ≤ 255
-second-small p ok =
+pub second_small : (p : Op) → OpOk p → p.second ≤ 255
+second_small p ok =
     let f = facts ok in
-    by-test (ltb p.code 4)
+    by_test (ltb p.code 4)
     (λ y. omega (arith, f.zero (ltb-true _ _ y)))
     (λ n. omega (arith, (f.second (omega (arith, ltb-false p.code 4 n))).0))
 
 -- THE FIRST LINE, before what follows it
-pub head-before : (id class : ℕ) (more : List ℕ) → headLine id class ++ more ≡ decimal id ++ (blank ∷ (decimal class ++ (newline ∷ more)))
-unfolding lineWith
-head-before id class more = rw (one-blanked class) (simp append_assoc)
+pub head_before : (id class : ℕ) (more : List ℕ) → head_line id class ++ more ≡ decimal id ++ (blank ∷ (decimal class ++ (newline ∷ more)))
+unfolding line_with
+head_before id class more = rw (one_blanked class) (simp append_assoc)
 
 -- the struct of an operation
 abbrev pub struct_of : P.Op → Op
@@ -176,20 +176,20 @@ struct_of (P.add k a) = record { code = 2; cell = k; second = 0; amount = a }
 struct_of (P.need k a) = record { code = 3; cell = k; second = 0; amount = a }
 struct_of (P.move k j a) = record { code = 4; cell = k; second = j; amount = a }
 
-pub struct_ok : (o : P.Op) → P.opOk o ≡ true → OpOk (struct_of o)
+pub struct_ok : (o : P.Op) → P.op_ok o ≡ true → OpOk (struct_of o)
 struct_ok (P.put k a) h = record { coded = refl; valid = h }
 struct_ok (P.add k a) h = record { coded = refl; valid = h }
 struct_ok (P.need k a) h = record { coded = refl; valid = h }
 struct_ok (P.move k j a) h = record { coded = refl; valid = h }
 
-pub struct-line : (o : P.Op) → line_of (struct_of o) ≡ opLine o
-struct-line (P.put k a) = refl
-struct-line (P.add k a) = refl
-struct-line (P.need k a) = refl
-struct-line (P.move k j a) = refl
+pub struct_line : (o : P.Op) → line_of (struct_of o) ≡ op_line o
+struct_line (P.put k a) = refl
+struct_line (P.add k a) = refl
+struct_line (P.need k a) = refl
+struct_line (P.move k j a) = refl
 
 -- where no struct's line stands, no operation's does
-pub no-op-line : (l rest : List ℕ) (o : Op) (b : Bool) → OpLineAt l b o rest → b ≡ false → (p : P.Op) (more : List ℕ) → P.opOk p ≡ true
-    → l ≡ opLine p ++ more → ⊥
-no-op-line l rest o b a z p more ok e =
-    a.none z (struct_of p) more (struct_ok p ok) (e ∙ ap (λ (t : List ℕ). t ++ more) (sym (struct-line p)))
+pub no_op_line : (l rest : List ℕ) (o : Op) (b : Bool) → OpLineAt l b o rest → b ≡ false → (p : P.Op) (more : List ℕ) → P.op_ok p ≡ true
+    → l ≡ op_line p ++ more → ⊥
+no_op_line l rest o b a z p more ok e =
+    a.none z (struct_of p) more (struct_ok p ok) (e ∙ ap (λ (t : List ℕ). t ++ more) (sym (struct_line p)))

@@ -12,12 +12,12 @@ use Rattle.text.specs.declared.Outcome.TheVariants.{Length, NoRecord, BadText, T
 pub data Answer : Type 0 where
   wrote : (length : ℕ) → Answer
   refused : (number : ℕ) → Answer
-  refusedAt : (number line : ℕ) → Answer
+  refused_at : (number line : ℕ) → Answer
 
 abbrev pub answer_of : Outcome → Answer
 answer_of (Length n) = wrote n
 answer_of NoRecord = refused 3
-answer_of (BadText line) = refusedAt 15 line
+answer_of (BadText line) = refused_at 15 line
 answer_of TooShort = refused 16
 
 -- a result is handed over: 16 exactly when the buffer is shorter than it; past the result, and on a refusal, nothing is written
@@ -27,10 +27,10 @@ pub record Handed (result before : List ℕ) (a : Answer) (after : List ℕ) : T
 
 -- WRITE: the text of the record's request, or 3 where the bytes are no record
 pub record Wrote (bytes before : List ℕ) (a : Answer) (after : List ℕ) : Type 0 where
-  pub is-record : (r : Request) → request bytes ≡ some r → Handed (text_of r) before a after
+  pub holds_record : (r : Request) → request bytes ≡ some r → Handed (text_of r) before a after
   pub no_record : request bytes ≡ none → (a ≡ refused 3) × (after ≡ before)
 
 -- READ: the record of the request whose text it is, or 15 with the first bad line
 pub data Took (text before : List ℕ) (a : Answer) (after : List ℕ) : Type 0 where
   took : (bytes : List ℕ) (r : Request) → request bytes ≡ some r → text ≡ text_of r → Handed bytes before a after → Took text before a after
-  bad : (line : ℕ) → FirstBad text line → a ≡ refusedAt 15 line → after ≡ before → Took text before a after
+  bad : (line : ℕ) → FirstBad text line → a ≡ refused_at 15 line → after ≡ before → Took text before a after

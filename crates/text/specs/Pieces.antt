@@ -1,32 +1,32 @@
 -- What the pieces of write and read come to. Assumes nothing.
 use Rattle.std.specs.Prelude.{ℕ, ◌/◌, ◌%◌, ◌≤◌, ◌<◌, ◌≡◌, Bool, true, false, cond, List, [], ◌∷◌, ◌++◌, length, get_or}
-use Rattle.plain.specs.Sizes.{classCount, mostOps, word}
-use Rattle.plain.specs.Record.{usesSecond, names}
+use Rattle.plain.specs.Sizes.{class_count, most_ops, word}
+use Rattle.plain.specs.Record.{uses_second, names}
 use Rattle.decimal.specs.Decimal.{decimal}
 use Rattle.cells.specs.declared.Op.{Op}
 use Rattle.cells.specs.Ops.{OpOk}
 use Rattle.slots.specs.declared.Slot.{Slot}
-use Rattle.slots.specs.Meaning.{requestOf}
+use Rattle.slots.specs.Meaning.{request_of}
 use Rattle.slots.specs.Rules.{New}
-use Rattle.text.specs.Text.{blank, joined, headLine, codeLine, text_of}
+use Rattle.text.specs.Text.{blank, joined, head_line, code_line, text_of}
 use Rattle.text.specs.Lines.{FirstBad}
 
 -- the line of an operation as the struct holds it
 abbrev pub line_of : Op → List ℕ
-line_of o = codeLine o.code o.cell o.second o.amount
+line_of o = code_line o.code o.cell o.second o.amount
 
 -- THE BYTES OF A RECORD: a number of four bytes, low byte first; an operation; what stands before the operations; a slot
 abbrev pub word_bytes : ℕ → List ℕ
 word_bytes n = n % 256 ∷ n / 256 % 256 ∷ n / 65536 % 256 ∷ n / 16777216 ∷ []
 
-abbrev pub opBytes : Op → List ℕ
-opBytes o = o.code ∷ o.cell ∷ o.second ∷ 0 ∷ word_bytes o.amount
+abbrev pub bytes_of_op : Op → List ℕ
+bytes_of_op o = o.code ∷ o.cell ∷ o.second ∷ 0 ∷ word_bytes o.amount
 
-abbrev pub headBytes : (id class count : ℕ) → List ℕ
-headBytes id class count = word_bytes id ++ (class ∷ count ∷ 0 ∷ 0 ∷ [])
+abbrev pub bytes_of_head : (id class count : ℕ) → List ℕ
+bytes_of_head id class count = word_bytes id ++ (class ∷ count ∷ 0 ∷ 0 ∷ [])
 
-abbrev pub recordBytes : Slot → List ℕ
-recordBytes v = headBytes v.id v.class v.count ++ joined opBytes v.ops
+abbrev pub bytes_of_record : Slot → List ℕ
+bytes_of_record v = bytes_of_head v.id v.class v.count ++ joined bytes_of_op v.ops
 
 -- READING: a word with a blank behind it stands at the start of a text
 abbrev pub Begins : List ℕ → List ℕ → Type 0
@@ -39,14 +39,14 @@ pub record NameAt (text : List ℕ) (code : ℕ) (rest : List ℕ) : Type 0 wher
   pub none : code ≡ 0 → (c : ℕ) (more : List ℕ) → 1 ≤ c → c ≤ 4 → text ≡ get_or names c [] ++ (blank ∷ more) → ⊥
 
 -- a second cell with its blank, where an operation of the code uses one, before the rest
-abbrev pub secondBefore : ℕ → ℕ → List ℕ → List ℕ
-secondBefore code j rest = cond (get_or usesSecond code false) (decimal j ++ (blank ∷ rest)) rest
+abbrev pub second_before : ℕ → ℕ → List ℕ → List ℕ
+second_before code j rest = cond (get_or uses_second code false) (decimal j ++ (blank ∷ rest)) rest
 
 pub record SecondAt (text : List ℕ) (code : ℕ) (ok : Bool) (value : ℕ) (rest : List ℕ) : Type 0 where
   pub small : value ≤ 255
-  pub stands : ok ≡ true → text ≡ secondBefore code value rest
-  pub unused : get_or usesSecond code false ≡ false → value ≡ 0
-  pub none : ok ≡ false → (j : ℕ) (more : List ℕ) → j ≤ 255 → text ≡ secondBefore code j more → ⊥
+  pub stands : ok ≡ true → text ≡ second_before code value rest
+  pub unused : get_or uses_second code false ≡ false → value ≡ 0
+  pub none : ok ≡ false → (j : ℕ) (more : List ℕ) → j ≤ 255 → text ≡ second_before code j more → ⊥
 
 -- the line of an operation that keeps its rules
 pub record OpLineAt (text : List ℕ) (ok : Bool) (o : Op) (rest : List ℕ) : Type 0 where
@@ -56,18 +56,18 @@ pub record OpLineAt (text : List ℕ) (ok : Bool) (o : Op) (rest : List ℕ) : T
 
 -- the first line of a valid text
 pub record HeadRules (id class : ℕ) : Type 0 where
-  pub id-not-zero : 1 ≤ id
-  pub id-fits : id < word
-  pub class-fits : class < classCount
+  pub id_not_zero : 1 ≤ id
+  pub id_fits : id < word
+  pub class_fits : class < class_count
 
 pub record HeadAt (text : List ℕ) (ok : Bool) (id class : ℕ) (rest : List ℕ) : Type 0 where
   pub rules : ok ≡ true → HeadRules id class
-  pub stands : ok ≡ true → text ≡ headLine id class ++ rest
-  pub none : ok ≡ false → (i c : ℕ) (more : List ℕ) → HeadRules i c → text ≡ headLine i c ++ more → ⊥
+  pub stands : ok ≡ true → text ≡ head_line id class ++ rest
+  pub none : ok ≡ false → (i c : ℕ) (more : List ℕ) → HeadRules i c → text ≡ head_line i c ++ more → ⊥
 
 -- a whole text: the slot of its request, or its first bad line
 pub record Parses (text : List ℕ) (ok : Bool) (v : Slot) (line : ℕ) : Type 0 where
-  pub long : ok ≡ true → length v.ops ≡ mostOps
+  pub long : ok ≡ true → length v.ops ≡ most_ops
   pub new : ok ≡ true → New v
-  pub stands : ok ≡ true → text ≡ text_of (requestOf v)
+  pub stands : ok ≡ true → text ≡ text_of (request_of v)
   pub bad : ok ≡ false → FirstBad text line

@@ -1,6 +1,6 @@
 // The request record of a slot: 64 bytes.
 ghost use Rattle.std.specs.Prelude.{◌≡◌};
-ghost use Rattle.text.specs.Pieces.{word_bytes, opBytes, headBytes, recordBytes};
+ghost use Rattle.text.specs.Pieces.{word_bytes, bytes_of_op, bytes_of_head, bytes_of_record};
 
 use cells::Op;
 use decimal::put;
@@ -21,7 +21,7 @@ fn word_bytes(n: u32) -> [u8; 4]
 
 // The eight bytes of an operation.
 fn op_bytes(op: Op) -> [u8; OP_SIZE]
-    ensures { result ≡ opBytes op }
+    ensures { result ≡ bytes_of_op op }
 {
     let amount = word_bytes(op.amount);
     [
@@ -31,7 +31,7 @@ fn op_bytes(op: Op) -> [u8; OP_SIZE]
 
 // The eight bytes before the operations.
 fn head_bytes(id: u32, class: u8, count: u8) -> [u8; FIRST_OP]
-    ensures { result ≡ headBytes id class count }
+    ensures { result ≡ bytes_of_head id class count }
 {
     let id = word_bytes(id);
     [id[0], id[1], id[2], id[3], class, count, 0, 0]
@@ -39,7 +39,7 @@ fn head_bytes(id: u32, class: u8, count: u8) -> [u8; FIRST_OP]
 
 // The record of a slot.
 pub fn record_of(slot: Slot) -> [u8; RECORD]
-    ensures { result ≡ recordBytes slot }
+    ensures { result ≡ bytes_of_record slot }
 {
     let mut bytes = [0u8; RECORD];
     let head = head_bytes(slot.id, slot.class, slot.count);

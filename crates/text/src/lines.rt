@@ -1,12 +1,12 @@
 // The text of a slot's request, line after line, put into a buffer.
 ghost use Rattle.std.specs.Prelude.{◌+◌, ◌<◌, ◌≤◌, ◌≡◌, false, cond, [], ◌∷◌, ◌++◌, length, get_or, take};
 ghost use Rattle.io.specs.Counts.{IsPrefixLen};
-ghost use Rattle.plain.specs.Record.{usesSecond, names};
+ghost use Rattle.plain.specs.Record.{uses_second, names};
 ghost use Rattle.decimal.specs.Decimal.{blanked};
 ghost use Rattle.cells.specs.Ops.{op_of, OpOk};
-ghost use Rattle.slots.specs.Meaning.{requestOf};
+ghost use Rattle.slots.specs.Meaning.{request_of};
 ghost use Rattle.slots.specs.Rules.{Holds};
-ghost use Rattle.text.specs.Text.{opLine, headLine, text_of};
+ghost use Rattle.text.specs.Text.{op_line, head_line, text_of};
 
 use super::name::name_of;
 use cells::{Op, SECOND};
@@ -42,8 +42,8 @@ fn put_name(to: &mut [u8], at: usize, code: u8) -> usize
 // Puts the second cell where an operation of the code uses one.
 fn put_second(to: &mut [u8], at: usize, code: u8, second: u8) -> usize
     requires { (code ≤ 4) × (at + length (blanked (second ∷ [])) ≤ length to.old) }
-    ensures value { result ≡ at + length (blanked (cond (get_or usesSecond code false) (second ∷ []) [])) }
-    ensures to_after { take result to.new ≡ take at to.old ++ blanked (cond (get_or usesSecond code false) (second ∷ []) []) }
+    ensures value { result ≡ at + length (blanked (cond (get_or uses_second code false) (second ∷ []) [])) }
+    ensures to_after { take result to.new ≡ take at to.old ++ blanked (cond (get_or uses_second code false) (second ∷ []) []) }
 {
     let c = code as usize;
     if !SECOND[c] {
@@ -57,7 +57,7 @@ fn put_op(to: &mut [u8], at: usize, op: Op) -> usize
     requires op_ok { OpOk op }
     requires at_in_bounds { at + 22 ≤ length to.old }
     ensures upper_bound { result ≤ at + 22 }
-    ensures to_after { take result to.new ≡ take at to.old ++ opLine (op_of op) }
+    ensures to_after { take result to.new ≡ take at to.old ++ op_line (op_of op) }
 {
     let named = put_name(to, at, op.code);
     let first = put_blanked(to, named, op.cell as u32);
@@ -70,7 +70,7 @@ fn put_op(to: &mut [u8], at: usize, op: Op) -> usize
 fn put_head(to: &mut [u8], id: u32, class: u8) -> usize
     requires { (class < 16) × (14 ≤ length to.old) }
     ensures upper_bound { result ≤ 14 }
-    ensures to_after { take result to.new ≡ headLine id class }
+    ensures to_after { take result to.new ≡ head_line id class }
 {
     let numbered = put_number(to, 0, id as u64);
     let classed = put_blanked(to, numbered, class as u32);
@@ -81,7 +81,7 @@ fn put_head(to: &mut [u8], id: u32, class: u8) -> usize
 pub fn put_text(to: &mut [u8; LONGEST], slot: Slot) -> usize
     requires { Holds slot }
     ensures prefix_len { IsPrefixLen result to.new }
-    ensures to_after { take result to.new ≡ text_of (requestOf slot) }
+    ensures to_after { take result to.new ≡ text_of (request_of slot) }
 {
     let n = slot.count as usize;
     let mut at = put_head(to, slot.id, slot.class);

@@ -14,9 +14,9 @@ unfolding bookings
 within = refl
 
 -- what stands before the first digit is a booking, and a bad one
-before-the-first : bookings (10 ∷ 55 ∷ []) ≡ (10 ∷ []) ∷ (55 ∷ []) ∷ []
+before_the_first : bookings (10 ∷ 55 ∷ []) ≡ (10 ∷ []) ∷ (55 ∷ []) ∷ []
 unfolding bookings
-before-the-first = refl
+before_the_first = refl
 
 -- the last booking of a block is taken only of the last block
 left : (whole false ((55 ∷ []) ∷ (56 ∷ []) ∷ []) ≡ (55 ∷ []) ∷ []) × (whole true ((55 ∷ []) ∷ (56 ∷ []) ∷ []) ≡ (55 ∷ []) ∷ (56 ∷ []) ∷ [])

@@ -3,12 +3,12 @@ use Rattle.std.specs.Prelude.{◌≡◌, ℕ, ◌-◌, ◌<◌, ◌≤◌, Bool,
 use Rattle.text.specs.Text.{newline}
 
 -- a digit in ASCII
-abbrev pub isDigit : ℕ → Bool
-isDigit x = nat_le 48 x && nat_le x 57
+abbrev pub is_digit : ℕ → Bool
+is_digit x = nat_le 48 x && nat_le x 57
 
 -- does a booking end with the byte x, where y comes next?
 abbrev pub parts : (x y : ℕ) → Bool
-parts x y = x == newline && isDigit y
+parts x y = x == newline && is_digit y
 
 -- a byte before the first booking of a text
 abbrev pub into : ℕ → List (List ℕ) → List (List ℕ)

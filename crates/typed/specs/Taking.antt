@@ -5,7 +5,7 @@ use Rattle.plain.specs.Ops.{Request}
 use Rattle.plain.specs.Record.{request}
 use Rattle.text.specs.Text.{text_of}
 use Rattle.text.specs.Lines.{FirstBad}
-use Rattle.text.specs.Calls.{Answer, wrote, refusedAt}
+use Rattle.text.specs.Calls.{Answer, wrote, refused_at}
 use Rattle.input.specs.Pieces.{behind}
 use Rattle.typed.specs.Bookings.{bookings}
 
@@ -24,8 +24,8 @@ abbrev pub longest : ℕ
 longest = 168
 
 -- may the booking from `at` to `end` go on behind a block of n bytes? Only where it ends with the block, which is not the last, and is not too long
-abbrev pub goesOn : (at end n : ℕ) (last : Bool) → Bool
-goesOn at end n last = not last && (nat_le n end && nat_le (end - at) longest)
+abbrev pub may_go_on : (at end n : ℕ) (last : Bool) → Bool
+may_go_on at end n last = not last && (nat_le n end && nat_le (end - at) longest)
 
 -- the bookings of a block that are taken: the last may go on behind a block that is not the last, unless it is too long to be a booking
 abbrev pub whole : (last : Bool) → List (List ℕ) → List (List ℕ)
@@ -36,7 +36,7 @@ whole last (b ∷ c ∷ bs) = b ∷ whole last (c ∷ bs)
 -- what is answered: the length of the records, or the first bad line
 abbrev pub answered : ℕ → Option ℕ → Answer
 answered n none = wrote n
-answered n (some line) = refusedAt 15 line
+answered n (some line) = refused_at 15 line
 
 -- TAKING A BLOCK from a place on: its bookings are taken; what is left begins at `at`, and `next` is the place of the first booking that is left
 pub record TakesBlock (t : List ℕ) (last : Bool) (place : ℕ) (records : List ℕ) (at next : ℕ) (a : Answer) : Type 0 where

@@ -5,7 +5,7 @@ ghost use Rattle.std.specs.Prelude.{◌≡◌, ◌+◌, ◌-◌, ◌<◌, ◌≤
 ghost use Rattle.io.specs.Counts.{IsPrefixLen};
 ghost use Rattle.text.specs.Calls.{answer_of};
 ghost use Rattle.typed.specs.Bookings.{parts, Ends};
-ghost use Rattle.typed.specs.Taking.{goesOn, TakesBlock};
+ghost use Rattle.typed.specs.Taking.{may_go_on, TakesBlock};
 
 use input::Got;
 use libc::{STDERR_FILENO, STDOUT_FILENO};
@@ -54,7 +54,7 @@ fn booking_end(input: &[u8], at: usize) -> usize
 // Whether a booking from `at` to `end` may go on behind a block of n bytes: it ends with the block, which is not the last, and is not too long.
 fn goes_on(at: usize, end: usize, n: usize, last: bool) -> bool
     requires { at ≤ end }
-    ensures { result ≡ goesOn at end n last }
+    ensures { result ≡ may_go_on at end n last }
 {
     if last {
         return false;

@@ -3,26 +3,26 @@ use Prim.Native.Nat.{◌+◌}
 use native.Mathlib.Omega.{arith}
 use borrow.Author.Rules.{rules}
 use borrow.Author.Tests.{not-true, not-false}
-use Rattle.plain.proofs.Deciding.{decides-false, decides-as, decides_eq}
-use Rattle.store.specs.Checks.{flagOf, nth}
-use Rattle.store.proofs.Taking.{once-by-ids, range-of}
+use Rattle.plain.proofs.Deciding.{decides_false, decides_as, decides_eq}
+use Rattle.store.specs.Checks.{flag_of, nth}
+use Rattle.store.proofs.Taking.{once_by_ids, range_of}
 use Rattle.checks.proofs.agree.Statement.{statement}
 use Rattle.checks.proofs.agree.Tie as tie
 
 returns : tie.Need-returns
-returns c = decides-false (λ h. c.before.free-zero.ensures.no (not-true _ c.if1.true) h.free-zero)
+returns c = decides_false (λ h. c.before.free_zero.ensures.no (not-true _ c.if1.true) h.free_zero)
 
 returns-2 : tie.Need-returns-2
-returns-2 c = decides-false (λ h. c.before.lens-short.ensures.no (not-true _ c.if2.true) h.short)
+returns-2 c = decides_false (λ h. c.before.lens-short.ensures.no (not-true _ c.if2.true) h.short)
 
 tails-zero-requires : tie.Need-tails-zero-requires
 tails-zero-requires c κs = c.before.lens-short.ensures.yes (not-false _ c.if2.false)
 
 returns-3 : tie.Need-returns-3
-returns-3 c = decides-false (λ h. c.before.tails-zero.ensures.no (not-true _ c.if3.true) h.tails)
+returns-3 c = decides_false (λ h. c.before.tails-zero.ensures.no (not-true _ c.if3.true) h.tails)
 
 returns-4 : tie.Need-returns-4
-returns-4 c = decides-false (λ h. c.before.map-agrees.ensures.no (not-true _ c.if4.true) h.map)
+returns-4 c = decides_false (λ h. c.before.map_agrees.ensures.no (not-true _ c.if4.true) h.map)
 
 each-once-requires : tie.Need-each-once-requires
 each-once-requires c κs =
@@ -35,15 +35,15 @@ returns-5 : tie.Need-returns-5
 returns-5 c =
     let c₁ = c.before.before.before in
     let the-args = c₁.before.before.before.before.before.before.before.args in
-    decides-false (λ h. (once-by-ids the-args.low the-args.high (nth the-args.ids.now) (nth the-args.classes.now) the-args.table
-    the-args.queue.now the-args.lens.now (c₁.map-agrees.ensures.yes (not-false _ c.before.before.if4.false))
+    decides_false (λ h. (once_by_ids the-args.low the-args.high (nth the-args.ids.now) (nth the-args.classes.now) the-args.table
+    the-args.queue.now the-args.lens.now (c₁.map_agrees.ensures.yes (not-false _ c.before.before.if4.false))
     c.before.each-once.ensures).no (not-true _ c.if5.true) h.once)
 
 pairs-differ-requires : tie.Need-pairs-differ-requires
 pairs-differ-requires c κs = c.before.before.before.before.before.before.before.before.before.before.requires.3
 
 returns-6 : tie.Need-returns-6
-returns-6 c = decides-false (λ h. c.before.pairs-differ.ensures.no (not-true _ c.if6.true) h.differ)
+returns-6 c = decides_false (λ h. c.before.pairs-differ.ensures.no (not-true _ c.if6.true) h.differ)
 
 in-order-requires : tie.Need-in-order-requires
 in-order-requires c κs =
@@ -56,13 +56,13 @@ in-order-requires c κs =
     let the-args = c₄.args in
     let pre· = c₄.requires in (
       lens-short·.ensures.yes (not-false _ if2·.false),
-      range-of (flagOf the-args.low the-args.high) (nth the-args.classes.now) the-args.table
+      range_of (flag_of the-args.low the-args.high) (nth the-args.classes.now) the-args.table
           the-args.queue.now the-args.lens.now pre·.0 pre·.1 (lens-short·.ensures.yes (not-false _ if2·.false)) (c₁.each-once.ensures.yes
           (not-false _ c.before.before.if5.false)),
     )
 
 returns-7 : tie.Need-returns-7
-returns-7 c = decides-false (λ h. c.before.in_order.ensures.no (not-true _ c.if7.true) h.places)
+returns-7 c = decides_false (λ h. c.before.in_order.ensures.no (not-true _ c.if7.true) h.places)
 
 sums-right-requires : tie.Need-sums-right-requires
 sums-right-requires c κs =
@@ -75,13 +75,13 @@ sums-right-requires c κs =
     let the-args = c₄.args in
     let pre· = c₄.requires in (
       lens-short·.ensures.yes (not-false _ if2·.false),
-      range-of (flagOf the-args.low the-args.high) (nth the-args.classes.now) the-args.table
+      range_of (flag_of the-args.low the-args.high) (nth the-args.classes.now) the-args.table
           the-args.queue.now the-args.lens.now pre·.0 pre·.1 (lens-short·.ensures.yes (not-false _ if2·.false)) (c₁.each-once.ensures.yes
           (not-false _ c.before.before.before.before.if5.false)),
     )
 
 returns-8 : tie.Need-returns-8
-returns-8 c = decides-false (λ h. c.before.sums-right.ensures.no (not-true _ c.if8.true) h.sums-right)
+returns-8 c = decides_false (λ h. c.before.sums_right.ensures.no (not-true _ c.if8.true) h.sums_right)
 
 returns-9 : tie.Need-returns-9
 returns-9 c =
@@ -100,21 +100,21 @@ returns-9 c =
     let c₁₂ = c₁₁.before in
     let c₁₃ = c₁₂.before in
     let c₁₄ = c₁₃.before in
-    let map-agrees· = c₈.map-agrees in
+    let map-agrees· = c₈.map_agrees in
     let if4· = c₇.if4 in
     let the-args = c₁₄.before.args in
     let numbered· = c.numbered in
-    decides-as
+    decides_as
     (λ e. record {
       short = c₁₂.lens-short.ensures.yes (not-false _ c₁₁.if2.false);
       tails = c₁₀.tails-zero.ensures.yes (not-false _ c₉.if3.false);
       map = map-agrees·.ensures.yes (not-false _ if4·.false);
-      once = (once-by-ids the-args.low the-args.high (nth the-args.ids.now) (nth the-args.classes.now) the-args.table the-args.queue.now
+      once = (once_by_ids the-args.low the-args.high (nth the-args.ids.now) (nth the-args.classes.now) the-args.table the-args.queue.now
           the-args.lens.now (map-agrees·.ensures.yes (not-false _ if4·.false)) c₆.each-once.ensures).yes (not-false _ c₅.if5.false);
       differ = c₄.pairs-differ.ensures.yes (not-false _ c₃.if6.false);
       places = c₂.in_order.ensures.yes (not-false _ c₁.if7.false);
-      sums-right = c₀.sums-right.ensures.yes (not-false _ c.before.if8.false);
-      free-zero = c₁₄.free-zero.ensures.yes (not-false _ c₁₃.if1.false);
+      sums_right = c₀.sums_right.ensures.yes (not-false _ c.before.if8.false);
+      free_zero = c₁₄.free_zero.ensures.yes (not-false _ c₁₃.if1.false);
       tally = omega (arith, e, numbered·.ensures);
     })
     (λ h. omega (arith, h.tally, numbered·.ensures))

@@ -7,20 +7,20 @@ use mathlib.Core.Logic.{⊎_elim}
 use borrow.Author.Count.{below_none, below_more}
 use borrow.Author.Rules.{rules}
 use borrow.Author.Tests.{not-true, not-false}
-use Rattle.plain.specs.Sizes.{classCount}
-use Rattle.plain.proofs.Deciding.{decides-true, decides-false}
+use Rattle.plain.specs.Sizes.{class_count}
+use Rattle.plain.proofs.Deciding.{decides_true, decides_false}
 use Rattle.store.specs.Meaning.{cells_of}
 use Rattle.store.specs.Checks.{CellsAt, nth}
-use Rattle.store.proofs.Cells.{lent-long, at-empty, at_head}
+use Rattle.store.proofs.Cells.{lent_long, at_empty, at_head}
 use Rattle.checks.proofs.cells_ok.Statement.{statement}
 use Rattle.checks.proofs.cells_ok.Tie as tie
 
 abbrev invariant-loop : tie.invariant-loop
 invariant-loop committed working slots heads c₀ c =
-    (c ≤ classCount) × ((k : ℕ) → k < c → CellsAt slots (nth heads k) (cells_of committed k) (cells_of working k))
+    (c ≤ class_count) × ((k : ℕ) → k < c → CellsAt slots (nth heads k) (cells_of committed k) (cells_of working k))
 
 abbrev decreases-loop : tie.decreases-loop
-decreases-loop committed working slots heads c₀ c = classCount - c
+decreases-loop committed working slots heads c₀ c = class_count - c
 
 loop-holds : tie.Need-loop-init invariant-loop decreases-loop
 loop-holds c = (search rules, below_none _)
@@ -32,7 +32,7 @@ same-cells-requires c κs =
     let the-args = c₂.args in
     let loop· = c₁.loop in
     let pre· = c₂.requires in
-    lent-long the-args.working.now loop·.c pre·.0.1 (omega arith) ∙ sym (lent-long the-args.committed.now loop·.c pre·.0.0
+    lent_long the-args.working.now loop·.c pre·.0.1 (omega arith) ∙ sym (lent_long the-args.committed.now loop·.c pre·.0.0
     (omega arith))
 
 returns : tie.Need-returns invariant-loop decreases-loop
@@ -42,8 +42,8 @@ returns c =
     let c₃ = c₂.before.before.before in
     let the-args = c₃.args in
     let loop· = c₂.loop in
-    let rule = at-empty the-args.t1 (nth the-args.t2 loop·.c) loop·.c the-args.committed.now the-args.working.now _ c₁.if1.true in
-    decides-false (λ h. (rule c.before.same-cells.ensures).no (not-true _ c.if2.true) (h loop·.c (omega arith)))
+    let rule = at_empty the-args.t1 (nth the-args.t2 loop·.c) loop·.c the-args.committed.now the-args.working.now _ c₁.if1.true in
+    decides_false (λ h. (rule c.before.same_cells.ensures).no (not-true _ c.if2.true) (h loop·.c (omega arith)))
 
 array-copy-out-v : tie.Need-array-copy-out-v invariant-loop decreases-loop
 array-copy-out-v c = search rules
@@ -59,8 +59,8 @@ head-ok-requires c κs =
     let the-args = c₃.args in
     let loop· = c₂.loop in
     let pre· = c₃.requires in (
-      lent-long the-args.committed.now loop·.c pre·.0.0 (omega arith),
-      lent-long the-args.working.now loop·.c pre·.0.1 (omega arith),
+      lent_long the-args.committed.now loop·.c pre·.0.0 (omega arith),
+      lent_long the-args.working.now loop·.c pre·.0.1 (omega arith),
       pre·.1 loop·.c (omega arith) c₁.if1.false,
     )
 
@@ -72,7 +72,7 @@ returns-2 c =
     let the-args = c₃.args in
     let loop· = c₂.loop in
     let rule = at_head the-args.t1 (nth the-args.t2 loop·.c) loop·.c the-args.committed.now the-args.working.now _ c₁.if1.false in
-    decides-false (λ h. (rule c.before.head_ok.ensures).no (not-true _ c.if3.true) (h loop·.c (omega arith)))
+    decides_false (λ h. (rule c.before.head_ok.ensures).no (not-true _ c.if3.true) (h loop·.c (omega arith)))
 
 loop-again : tie.Need-loop-preserved invariant-loop decreases-loop
 loop-again c =
@@ -84,13 +84,13 @@ loop-again c =
     let wrk = the-args.working.now in (
       search rules,
       below_more _ _ loop·.invariant.1 (⊎_elim
-          (λ t. (at-empty the-args.t1 head loop·.c base wrk _ t.0.taken t.3.ensures).yes (not-false _ t.4.left))
+          (λ t. (at_empty the-args.t1 head loop·.c base wrk _ t.0.taken t.3.ensures).yes (not-false _ t.4.left))
           (λ t. (at_head the-args.t1 head loop·.c base wrk _ t.0.left t.4.ensures).yes (not-false _ t.5.left))
           c.if1.branch),
     )
 
 returns-3 : tie.Need-returns-3 invariant-loop decreases-loop
-returns-3 c = decides-true (λ k l. c.before.loop.invariant.1 k (omega arith))
+returns-3 c = decides_true (λ k l. c.before.loop.invariant.1 k (omega arith))
 
 pub cells-ok-spec : {M : Type 1} → statement M
 cells-ok-spec =

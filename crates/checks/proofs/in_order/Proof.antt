@@ -4,19 +4,19 @@ use native.Mathlib.Omega.{arith}
 use borrow.Author.Count.{below_none, below_more}
 use borrow.Author.Rules.{rules}
 use borrow.Author.Tests.{not-true, not-false}
-use Rattle.plain.specs.Sizes.{classCount, mostQueued}
-use Rattle.plain.proofs.Deciding.{decides-true, decides-false}
+use Rattle.plain.specs.Sizes.{class_count, most_queued}
+use Rattle.plain.proofs.Deciding.{decides_true, decides_false}
 use Rattle.store.specs.Checks.{QueueOk, nth}
 use Rattle.checks.proofs.in_order.Statement.{statement}
 use Rattle.checks.proofs.in_order.Tie as tie
 
 abbrev invariant-loop : tie.invariant-loop
 invariant-loop lines dones marks queue lens confirmations c₀ c =
-    (c ≤ classCount)
-    × ((k : ℕ) → k < c → QueueOk (nth lines) (nth dones) (nth marks) queue confirmations (mostQueued * k) (nth lens k))
+    (c ≤ class_count)
+    × ((k : ℕ) → k < c → QueueOk (nth lines) (nth dones) (nth marks) queue confirmations (most_queued * k) (nth lens k))
 
 abbrev decreases-loop : tie.decreases-loop
-decreases-loop lines dones marks queue lens confirmations c₀ c = classCount - c
+decreases-loop lines dones marks queue lens confirmations c₀ c = class_count - c
 
 loop-holds : tie.Need-loop-init invariant-loop decreases-loop
 loop-holds c = (search rules, below_none _)
@@ -35,7 +35,7 @@ queue-ok-requires c κs =
 returns : tie.Need-returns invariant-loop decreases-loop
 returns c =
     let c₁ = c.before.before.before.before in
-    decides-false (λ h. c.before.queue-ok.ensures.no (not-true _ c.if1.true) (h c₁.loop.c (omega arith)))
+    decides_false (λ h. c.before.queue-ok.ensures.no (not-true _ c.if1.true) (h c₁.loop.c (omega arith)))
 
 loop-again : tie.Need-loop-preserved invariant-loop decreases-loop
 loop-again c =
@@ -43,7 +43,7 @@ loop-again c =
     (search rules, below_more _ _ c₁.loop.invariant.1 (c.before.queue-ok.ensures.yes (not-false _ c.if1.false)))
 
 returns-2 : tie.Need-returns-2 invariant-loop decreases-loop
-returns-2 c = decides-true (λ k l. c.before.loop.invariant.1 k (omega arith))
+returns-2 c = decides_true (λ k l. c.before.loop.invariant.1 k (omega arith))
 
 pub in-order-spec : {M : Type 1} → statement M
 in-order-spec =

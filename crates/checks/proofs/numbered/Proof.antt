@@ -4,20 +4,20 @@ use native.Mathlib.Omega.{arith}
 use mathlib.Core.Path.{◌≡◌}
 use mathlib.Core.Logic.{⊎_elim}
 use borrow.Author.Rules.{rules}
-use Rattle.plain.specs.Sizes.{slotCount}
+use Rattle.plain.specs.Sizes.{slot_count}
 use Rattle.store.specs.Checks.{nth, numbered}
-use Rattle.store.proofs.Tally.{one-numbered, not-numbered, none-numbered}
+use Rattle.store.proofs.Tally.{one_numbered, not_numbered, none_numbered}
 use Rattle.checks.proofs.numbered.Statement.{statement}
 use Rattle.checks.proofs.numbered.Tie as tie
 
 abbrev invariant-loop : tie.invariant-loop
-invariant-loop lines n₀ s₀ n s = (s ≤ slotCount) × (n ≤ s) × (n ≡ numbered (nth lines) s)
+invariant-loop lines n₀ s₀ n s = (s ≤ slot_count) × (n ≤ s) × (n ≡ numbered (nth lines) s)
 
 abbrev decreases-loop : tie.decreases-loop
-decreases-loop lines n₀ s₀ n s = slotCount - s
+decreases-loop lines n₀ s₀ n s = slot_count - s
 
 loop-holds : tie.Need-loop-init invariant-loop decreases-loop
-loop-holds c = (search rules, search rules, none-numbered _)
+loop-holds c = (search rules, search rules, none_numbered _)
 
 loop-again : tie.Need-loop-preserved invariant-loop decreases-loop
 loop-again c =
@@ -27,13 +27,13 @@ loop-again c =
       search rules,
       ⊎_elim (λ w. omega (arith, w.1)) (λ w. omega (arith, w.1)) if1·.branch,
       ⊎_elim
-          (λ w. omega (arith, w.1, one-numbered numbers· s· w.0.taken))
-          (λ w. omega (arith, w.1, not-numbered numbers· s· w.0.left))
+          (λ w. omega (arith, w.1, one_numbered numbers· s· w.0.taken))
+          (λ w. omega (arith, w.1, not_numbered numbers· s· w.0.left))
           if1·.branch,
     )
 
 returns : tie.Need-returns invariant-loop decreases-loop
-returns c = let loop· = c.before.loop in let e : loop·.s ≡ slotCount = omega arith in rw e at loop·.invariant.2
+returns c = let loop· = c.before.loop in let e : loop·.s ≡ slot_count = omega arith in rw e at loop·.invariant.2
 
 pub numbered-spec : {M : Type 1} → statement M
 numbered-spec =

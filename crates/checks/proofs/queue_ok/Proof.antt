@@ -6,8 +6,8 @@ use mathlib.Core.Logic.{⊎_elim}
 use borrow.Author.Count.{below_none, below_more}
 use borrow.Author.Rules.{rules}
 use borrow.Author.Tests.{not-true, not-false}
-use Rattle.plain.specs.Sizes.{mostQueued}
-use Rattle.plain.proofs.Deciding.{decides-true, decides-false}
+use Rattle.plain.specs.Sizes.{most_queued}
+use Rattle.plain.proofs.Deciding.{decides_true, decides_false}
 use Rattle.store.specs.Checks.{QueueOk, nth}
 use Rattle.checks.proofs.queue_ok.Statement.{statement}
 use Rattle.checks.proofs.queue_ok.Tie as tie
@@ -32,10 +32,10 @@ element-copy-out-line : tie.Need-element-copy-out-line invariant-loop decreases-
 element-copy-out-line c = c.before.before.before.requires.1 c.before.before.loop.p (omega arith)
 
 returns : tie.Need-returns invariant-loop decreases-loop
-returns c = decides-false (λ h. let b = (h c.before.before.before.before.loop.p (omega arith)).given in omega arith)
+returns c = decides_false (λ h. let b = (h c.before.before.before.before.loop.p (omega arith)).given in omega arith)
 
 -- the place before
-before_small : (queue : ℕ → ℕ) (a p len : ℕ) → ((k : ℕ) → k < len → queue (a + k) < mostQueued) → 0 < p → p < len → queue (a + p - 1) < mostQueued
+before_small : (queue : ℕ → ℕ) (a p len : ℕ) → ((k : ℕ) → k < len → queue (a + k) < most_queued) → 0 < p → p < len → queue (a + p - 1) < most_queued
 before_small queue a p len h z l = let e : a + (p - 1) ≡ a + p - 1 = omega arith in rw e at (h (p - 1) (omega arith))
 
 cast-j : tie.Need-overflow-cast-j invariant-loop decreases-loop
@@ -75,7 +75,7 @@ returns-2 : tie.Need-returns-2 invariant-loop decreases-loop
 returns-2 c =
     let c₁ = c.before.before.before.before.before.before in
     let c₂ = c₁.before.before.before.before.before in
-    decides-false (λ h. c.before.behind.ensures.no (not-true _ c.if3.true) ((h c₂.loop.p (omega arith)).follows c₁.if2.true))
+    decides_false (λ h. c.before.behind.ensures.no (not-true _ c.if3.true) ((h c₂.loop.p (omega arith)).follows c₁.if2.true))
 
 loop-again : tie.Need-loop-preserved invariant-loop decreases-loop
 loop-again c = (
@@ -87,7 +87,7 @@ loop-again c = (
 )
 
 returns-3 : tie.Need-returns-3 invariant-loop decreases-loop
-returns-3 c = decides-true (λ k l. c.before.loop.invariant.1 k (omega arith))
+returns-3 c = decides_true (λ k l. c.before.loop.invariant.1 k (omega arith))
 
 pub queue-ok-spec : {M : Type 1} → statement M
 queue-ok-spec =

@@ -4,7 +4,7 @@ use native.Mathlib.Omega.{arith}
 use mathlib.Core.Path.{◌≡◌}
 use borrow.Author.Rules.{rules}
 use Rattle.plain.specs.Decides.{Decides}
-use Rattle.plain.proofs.Deciding.{decides-true, decides-as, decides_eq, decides-more}
+use Rattle.plain.proofs.Deciding.{decides_true, decides_as, decides_eq, decides_more}
 use Rattle.store.specs.Checks.{ZeroFrom, nth}
 use Rattle.checks.proofs.zero_from.Statement.{statement}
 use Rattle.checks.proofs.zero_from.Tie as tie
@@ -16,14 +16,14 @@ abbrev decreases-loop : tie.decreases-loop
 decreases-loop queue from end zero₀ at₀ zero at = end - at
 
 loop-holds : tie.Need-loop-init invariant-loop decreases-loop
-loop-holds c = (search rules, search rules, decides-true (λ k l m. absurd (omega arith)))
+loop-holds c = (search rules, search rules, decides_true (λ k l m. absurd (omega arith)))
 
 loop-again : tie.Need-loop-preserved invariant-loop decreases-loop
 loop-again c = let the-args = c.before.before.before.args in let loop· = c.before.before.loop in (
   search rules,
   search rules,
-  decides-more (λ k. the-args.from ≤ k → nth the-args.queue.now k ≡ 0) loop·.at loop·.invariant.2
-      (decides-as (λ e _. e) (λ h. h loop·.invariant.0) (decides_eq _ 0)),
+  decides_more (λ k. the-args.from ≤ k → nth the-args.queue.now k ≡ 0) loop·.at loop·.invariant.2
+      (decides_as (λ e _. e) (λ h. h loop·.invariant.0) (decides_eq _ 0)),
 )
 
 returns : tie.Need-returns invariant-loop decreases-loop

@@ -7,7 +7,7 @@ use mathlib.Core.List.{List, [], ◌∷◌, ◌++◌}
 use lib.ListN.{length, get_or, drop, drop_of_length-le}
 use borrow.Author.Rules.{rules}
 use Rattle.decimal.specs.Decimal.{decimal, NumberAt}
-use Rattle.decimal.proofs.Runs.{Digit, one-digit, no_text, no_digit, refuse, at_place, stayed}
+use Rattle.decimal.proofs.Runs.{Digit, one_digit, no_text, no_digit, refuse, at_place, stayed}
 use Rattle.decimal.proofs.number_at.Statement.{statement}
 use Rattle.decimal.proofs.number_at.Tie as tie
 
@@ -23,7 +23,7 @@ first-digit : (text : List ℕ) (at : ℕ) → at < length text → Digit (get_o
 first-digit text at l d =
     let x = get_or text at 0 in
     let e : 48 + (x - 48) ≡ x = omega arith in
-    at_place text at l ∙ ap (λ (t : List ℕ). t ++ drop (at + 1) text) (ap (λ (y : ℕ). y ∷ []) (sym e) ∙ sym (one-digit (x - 48) (omega arith)))
+    at_place text at l ∙ ap (λ (t : List ℕ). t ++ drop (at + 1) text) (ap (λ (y : ℕ). y ∷ []) (sym e) ∙ sym (one_digit (x - 48) (omega arith)))
 
 returns : tie.Need-returns
 returns c =

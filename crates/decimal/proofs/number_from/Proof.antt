@@ -6,7 +6,7 @@ use mathlib.Core.List.{List, [], ◌∷◌, ◌++◌}
 use lib.ListN.{length, get_or, drop, drop_of_length-le}
 use borrow.Author.Rules.{rules}
 use Rattle.decimal.specs.Decimal.{decimal}
-use Rattle.decimal.proofs.Runs.{Digit, ended, stopped, zero-first, too_large, refuse, accept, longer, at_place, stayed, went-past}
+use Rattle.decimal.proofs.Runs.{Digit, ended, stopped, zero_first, too_large, refuse, accept, longer, at_place, stayed, went_past}
 use Rattle.decimal.proofs.number_from.Statement.{statement}
 use Rattle.decimal.proofs.number_from.Tie as tie
 
@@ -31,7 +31,7 @@ returns c =
     let loop = c.before.before.before.loop in
     let p = behind args.text.now args.at loop.i loop.value (search rules) loop.invariant.2 in
     let q : get_or args.text.now loop.i 0 ≡ args.stop = c.if1.true in
-    (accept _ _ (λ d. omega arith) _ _ _ (search rules) (rw q at p), (search rules, went-past _ _ _ _ (search rules) (search rules) loop.invariant.2))
+    (accept _ _ (λ d. omega arith) _ _ _ (search rules) (rw q at p), (search rules, went_past _ _ _ _ (search rules) (search rules) loop.invariant.2))
 
 returns-2 : tie.Need-returns-2 invariant-loop decreases-loop
 returns-2 c =
@@ -56,7 +56,7 @@ returns-4 c =
     let p = behind args.text.now args.at loop.i loop.value (search rules) loop.invariant.2 in
     let s : Digit args.stop → ⊥ = λ d. omega arith in
     let z : loop.value ≡ 0 = c.if4.true in
-    (refuse _ _ s _ _ (zero-first _ _ s _ _ _ (omega arith, omega arith) (rw z at p)), (search rules, stayed _))
+    (refuse _ _ s _ _ (zero_first _ _ s _ _ _ (omega arith, omega arith) (rw z at p)), (search rules, stayed _))
 
 returns-5 : tie.Need-returns-5 invariant-loop decreases-loop
 returns-5 c =

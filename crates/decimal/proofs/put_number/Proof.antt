@@ -5,7 +5,7 @@ use mathlib.Core.Path.{◌∙◌, ap}
 use mathlib.Core.List.{List, ◌++◌}
 use lib.ListN.{length, take}
 use borrow.Author.Rules.{rules}
-use Rattle.decimal.proofs.Digits.{is-decimal}
+use Rattle.decimal.proofs.Digits.{is_decimal}
 use Rattle.decimal.proofs.put_number.Statement.{statement}
 use Rattle.decimal.proofs.put_number.Tie as tie
 
@@ -13,7 +13,7 @@ put-requires : tie.Need-put-requires
 put-requires c κs =
     let decimal-call = c.before.before.decimal in
     let pre = c.before.before.before.before.before.requires in
-    let e = decimal-call.ensures.1.1 ∙ is-decimal _ _ decimal-call.ensures.1.0 in
+    let e = decimal-call.ensures.1.1 ∙ is_decimal _ _ decimal-call.ensures.1.0 in
     omega (arith, ap length e, pre)
 
 returns : tie.Need-returns
@@ -21,7 +21,7 @@ returns c =
     let decimal-call = c.before.before.before.before.before.decimal in
     let put = c.before.before.put in
     let args = c.before.before.before.before.before.before.before.before.args in
-    let e = decimal-call.ensures.1.1 ∙ is-decimal _ _ decimal-call.ensures.1.0 in (
+    let e = decimal-call.ensures.1.1 ∙ is_decimal _ _ decimal-call.ensures.1.0 in (
       put.ensures.0 ∙ ap (λ (t : List ℕ). args.at + length t) e,
       (put.ensures.1.0 ∙ ap (λ (t : List ℕ). take args.at args.to.now ++ t) e, put.ensures.1.1),
     )

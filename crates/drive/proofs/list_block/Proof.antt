@@ -2,7 +2,7 @@
 -- Assumes nothing.
 use Rattle.std.proofs.Common.{◌≡◌, ◌-◌, ◌*◌, ◌^◌, ◌<◌, ◌≤◌, length, take, arith, rules}
 use Rattle.site.specs.Held.{state_of}
-use Rattle.drive.proofs.Listing.{Stands, walked, short-one, none_left, ended, counted}
+use Rattle.drive.proofs.Listing.{Stands, walked, short_one, none_left, ended, counted}
 use Rattle.drive.proofs.list_block.Statement.{statement}
 use Rattle.drive.proofs.list_block.Tie as tie
 
@@ -36,7 +36,7 @@ returns c =
     let if1 = c.before.before.before.before.before.before.before.before.before.before.before.before.before.if1 in
     let wrapping-add-u642 = c.wrapping-add-u642 in
     let list-event2 = c.before.before.before.before.before.before.before.before.list-event2 in
-    let last = short-one (state_of args.site args.committed.now args.working.now) args.input.now args.first loop.at (state_of loop.site loop.committed loop.working) loop.place _ loop.invariant.6 _ _ _ if1.true c.before.before.before.before.before.before.before.before.before.before.before.before.before.before.loop-test.false wrapping-add-u642.ensures list-event2.ensures.0 in
+    let last = short_one (state_of args.site args.committed.now args.working.now) args.input.now args.first loop.at (state_of loop.site loop.committed loop.working) loop.place _ loop.invariant.6 _ _ _ if1.true c.before.before.before.before.before.before.before.before.before.before.before.before.before.before.loop-test.false wrapping-add-u642.ensures list-event2.ensures.0 in
     (ended _ _ _ _ _ _ last, (counted _ _ _ _ _ _ (omega (arith, wrapping-add-u642.ensures)) last, omega (arith, list-event2.ensures.1, loop.invariant.1, if1.true, c.before.before.before.before.before.before.before.before.before.before.before.before.before.before.before.before.before.before.before.before.requires.0)))
 
 returns-2 : tie.Need-returns-2 invariant-loop decreases-loop

@@ -2,7 +2,7 @@
 -- fewer. Assumes nothing.
 use Rattle.std.proofs.Common.{◌≡◌, ℕ, ◌+◌, ◌*◌, List, [], length, take, sym, refl, ◌∙◌, arith, length-append, length-take, length-take-le, rules}
 use Rattle.site.specs.Held.{state_of}
-use Rattle.event.specs.Event.{eventSize}
+use Rattle.event.specs.Event.{event_size}
 use Rattle.drive.specs.Listing.{Ran}
 use Rattle.drive.proofs.Listing.{begun, goes_on}
 use Rattle.drive.proofs.run.Statement.{statement}
@@ -11,7 +11,7 @@ use Rattle.drive.proofs.run.Tie as tie
 abbrev invariant-loop : tie.invariant-loop
 invariant-loop site₀ committed₀ working₀ input₀ text₀ place₀ turns₀ site committed working input text place turns =
     (length input ≡ 32400) × (length text ≡ 65536) × (length committed ≡ length committed₀) × (length working ≡ length working₀) × (read : List ℕ) × (events : ℕ) × (lines : List ℕ)
-    × (length read ≡ eventSize * events) × Ran (state_of site₀ committed₀ working₀) read (state_of site committed working) place lines
+    × (length read ≡ event_size * events) × Ran (state_of site₀ committed₀ working₀) read (state_of site committed working) place lines
 
 abbrev decreases-loop : tie.decreases-loop
 decreases-loop site₀ committed₀ working₀ input₀ text₀ place₀ turns₀ site committed working input text place turns =
@@ -49,7 +49,7 @@ loop-again c =
     let list-block = c.before.before.before.before.before.before.before.before.before.before.list-block in
     let n = whole.result in
     let block = take n fill.new.0 in
-    let long : length block ≡ eventSize * 450 = omega (arith, length-take n fill.new.0) in
+    let long : length block ≡ event_size * 450 = omega (arith, length-take n fill.new.0) in
     (search rules, search rules, search rules, search rules, _, loop.invariant.5 + 450, _, length-append loop.invariant.4 block ∙ omega (arith, loop.invariant.7), goes_on _ loop.invariant.4 _ loop.place loop.invariant.6 (take whole.result fill.new.0) _ _ _ loop.invariant.5 loop.invariant.7 loop.invariant.8 list-block.ensures.0 list-block.ensures.1.0)
 
 pub run_spec : {M : Type 1} → statement M

@@ -4,7 +4,7 @@ use mathlib.Core.Path.{refl}
 use mathlib.Core.List.{List}
 use Rattle.text.specs.declared.Outcome.{Outcome}
 use Rattle.text.specs.Calls.{answer_of}
-use Rattle.host.specs.Told.{toldText}
+use Rattle.host.specs.Told.{told_text}
 use borrow.Author.Rules.{rules}
 use Rattle.host.proofs.Told.{known}
 use Rattle.host.proofs.numbers_of_text.Statement.{statement}
@@ -12,7 +12,7 @@ use Rattle.host.proofs.numbers_of_text.Tie as tie
 
 -- what is told of one
 abbrev said : Outcome → List ℕ
-said x = toldText (answer_of x)
+said x = told_text (answer_of x)
 
 returns : tie.Need-returns
 returns c = known said _ _ _ c.before.outcome.given.1 refl

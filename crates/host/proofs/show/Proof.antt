@@ -3,7 +3,7 @@ use Prim.Native.Nat.{◌+◌, ◌*◌, ◌-◌}
 use native.Mathlib.Omega.{arith}
 use mathlib.Core.Path.{◌≡◌}
 use borrow.Author.Rules.{rules}
-use Rattle.host.proofs.Told.{read_right, shown-entry, shown-other}
+use Rattle.host.proofs.Told.{read_right, shown_entry, shown_other}
 use Rattle.host.proofs.show.Statement.{statement}
 use Rattle.host.proofs.show.Tie as tie
 
@@ -23,10 +23,10 @@ returns : tie.Need-returns
 returns c =
     let args = c.before.before.before.before.before.before.args in
     let e : 64 * args.class + 64 - 64 * args.class ≡ 64 = omega arith in
-    shown-entry args.answer _ _ _ _ c.before.before.before.enum_told.given.1 (rw e at c.copy-cells.ensures)
+    shown_entry args.answer _ _ _ _ c.before.before.before.enum_told.given.1 (rw e at c.copy-cells.ensures)
 
 returns-2 : tie.Need-returns-2
-returns-2 c = shown-other c.before.before.args.answer _ _ c.match.keys2
+returns-2 c = shown_other c.before.before.args.answer _ _ c.match.keys2
 
 pub show-spec : {M : Type 1} → statement M
 show-spec =

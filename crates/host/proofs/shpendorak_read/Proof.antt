@@ -2,19 +2,19 @@
 use mathlib.Core.Path.{refl}
 use mathlib.Core.List.{[]}
 use borrow.Author.Rules.{rules}
-use Rattle.host.proofs.Told.{known-answer}
+use Rattle.host.proofs.Told.{known_answer}
 use Rattle.host.proofs.shpendorak_read.Statement.{statement}
 use Rattle.host.proofs.shpendorak_read.Tie as tie
 
 returns : tie.Need-returns
 returns c =
     let read = c.before.before.before.before.read in
-    record { answer = _; promised = read.ensures; says = known-answer _ [] _ _ _ c.before.before.given.given.1 refl }
+    record { answer = _; promised = read.ensures; says = known_answer _ [] _ _ _ c.before.before.given.given.1 refl }
 
 returns-2 : tie.Need-returns-2
 returns-2 c =
     let read = c.before.before.before.before.read in
-    record { answer = _; promised = read.ensures; says = known-answer _ [] _ _ _ c.before.before.given2.given.1 refl }
+    record { answer = _; promised = read.ensures; says = known_answer _ [] _ _ _ c.before.before.given2.given.1 refl }
 
 pub shpendorak-read-spec : {M : Type 1} → statement M
 shpendorak-read-spec =

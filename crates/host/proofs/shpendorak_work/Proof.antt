@@ -1,7 +1,7 @@
 -- The numbers and the cells of an entry are those of the call's answer. Assumes nothing.
 use mathlib.Core.Path.{◌∙◌}
 use borrow.Author.Rules.{rules}
-use Rattle.host.proofs.Told.{readable, same-told}
+use Rattle.host.proofs.Told.{readable, same_told}
 use Rattle.host.proofs.shpendorak_work.Statement.{statement}
 use Rattle.host.proofs.shpendorak_work.Tie as tie
 
@@ -12,7 +12,7 @@ returns : tie.Need-returns
 returns c =
     let work = c.before.before.before.before.before.before.before.before.before.before.work in
     record {
-      told = record { answer = _; promised = work.ensures; says = c.before.tell.ensures ∙ same-told _ work.result.answer _ };
+      told = record { answer = _; promised = work.ensures; says = c.before.tell.ensures ∙ same_told _ work.result.answer _ };
       cells = c.before.before.before.show.ensures;
     }
 

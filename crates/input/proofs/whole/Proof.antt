@@ -6,19 +6,19 @@ use mathlib.Core.Path.{◌≡◌}
 use mathlib.Core.Bool.{Bool, true, false}
 use borrow.Author.Rules.{rules}
 use borrow.Author.Tests.{not-true, not-false}
-use Rattle.input.specs.Pieces.{wholePart}
+use Rattle.input.specs.Pieces.{whole_part}
 use Rattle.input.proofs.whole.Statement.{statement}
 use Rattle.input.proofs.whole.Tie as tie
 
 -- nothing failed: all
-all : (failed : Bool) (size n : ℕ) → failed ≡ false → n ≡ wholePart failed size n
+all : (failed : Bool) (size n : ℕ) → failed ≡ false → n ≡ whole_part failed size n
 all failed size n f = rw f
 
 -- a read failed: whole pieces, of which there is none where a piece has no bytes
-some : (failed : Bool) (size n : ℕ) → failed ≡ true → n - n % size ≡ wholePart failed size n
+some : (failed : Bool) (size n : ℕ) → failed ≡ true → n - n % size ≡ whole_part failed size n
 some failed size n t = rw t
 
-none : (failed : Bool) (size n : ℕ) → failed ≡ true → size ≡ 0 → 0 ≡ wholePart failed size n
+none : (failed : Bool) (size n : ℕ) → failed ≡ true → size ≡ 0 → 0 ≡ whole_part failed size n
 none failed size n t e = rw (t, e) (omega (arith, mod-zero n))
 
 returns : tie.Need-returns

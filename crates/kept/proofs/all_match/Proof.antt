@@ -8,9 +8,9 @@ use lib.Dec.{eqb}
 use borrow.Author.Count.{below_none, below_more}
 use borrow.Author.Rules.{rules}
 use borrow.Author.Tests.{not-true, not-false}
-use Rattle.plain.proofs.Deciding.{decides-true, decides-false}
+use Rattle.plain.proofs.Deciding.{decides_true, decides_false}
 use Rattle.store.specs.Checks.{MatchesAll, nth}
-use Rattle.kept.proofs.Places.{some_id, no-id}
+use Rattle.kept.proofs.Places.{some_id, no_id}
 use Rattle.kept.proofs.all_match.Statement.{statement}
 use Rattle.kept.proofs.all_match.Tie as tie
 
@@ -29,19 +29,19 @@ matches-requires c κs =
     let pre· = c.before.before.before.before.before.requires in (pre·.0, pre·.1, pre·.2, omega (arith, c.before.if1.true))
 
 returns : tie.Need-returns invariant-loop decreases-loop
-returns c = decides-false (λ h. c.before.matches.ensures.no (not-true _ c.if2.true) (h _ (omega arith) (some_id _ c.before.before.before.if1.true)))
+returns c = decides_false (λ h. c.before.matches.ensures.no (not-true _ c.if2.true) (h _ (omega arith) (some_id _ c.before.before.before.if1.true)))
 
 loop-again : tie.Need-loop-preserved invariant-loop decreases-loop
 loop-again c = (
   search rules,
   below_more _ _ c.before.before.before.loop.invariant.1 (⊎_elim
       (λ w _. w.2.ensures.yes (not-false _ w.3.left))
-      (λ w u. absurd (no-id _ w.left u))
+      (λ w u. absurd (no_id _ w.left u))
       c.if1.branch),
 )
 
 returns-2 : tie.Need-returns-2 invariant-loop decreases-loop
-returns-2 c = decides-true (λ k l. c.before.loop.invariant.1 k (omega arith))
+returns-2 c = decides_true (λ k l. c.before.loop.invariant.1 k (omega arith))
 
 pub all-match-spec : {M : Type 1} → statement M
 all-match-spec =

@@ -5,7 +5,7 @@ use mathlib.Core.Path.{◌≡◌}
 use lib.ListN.{get_or}
 use borrow.Author.Count.{below_none, below_more}
 use borrow.Author.Rules.{rules}
-use Rattle.plain.proofs.Deciding.{decides-true, decides-false}
+use Rattle.plain.proofs.Deciding.{decides_true, decides_false}
 use Rattle.kept.proofs.among.Statement.{statement}
 use Rattle.kept.proofs.among.Tie as tie
 
@@ -19,13 +19,13 @@ loop-holds : tie.Need-loop-init invariant-loop decreases-loop
 loop-holds c = (search rules, below_none _)
 
 returns : tie.Need-returns invariant-loop decreases-loop
-returns c = decides-true (_, omega arith, c.if1.true)
+returns c = decides_true (_, omega arith, c.if1.true)
 
 loop-again : tie.Need-loop-preserved invariant-loop decreases-loop
 loop-again c = (search rules, below_more _ _ c.before.before.before.loop.invariant.1 c.if1.false)
 
 returns-2 : tie.Need-returns-2 invariant-loop decreases-loop
-returns-2 c = decides-false (λ a. c.before.loop.invariant.1 a.0 (omega (arith, a.1)) a.2)
+returns-2 c = decides_false (λ a. c.before.loop.invariant.1 a.0 (omega (arith, a.1)) a.2)
 
 pub among-spec : {M : Type 1} → statement M
 among-spec =

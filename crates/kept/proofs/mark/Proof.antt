@@ -6,10 +6,10 @@ use lib.ListN.{length, get_or, length-set, length-replicate}
 use mathlib.Core.Bool.{false}
 use borrow.Author.Rules.{rules}
 use Rattle.plain.proofs.Tests.{no}
-use Rattle.plain.proofs.Deciding.{decides-true, decides-false}
+use Rattle.plain.proofs.Deciding.{decides_true, decides_false}
 use Rattle.store.specs.Sound.{Apart}
 use Rattle.kept.specs.Marks.{MarkedUpTo}
-use Rattle.kept.proofs.Places.{apart_more, mark-more, new}
+use Rattle.kept.proofs.Places.{apart_more, mark_more, new}
 use Rattle.kept.proofs.mark.Statement.{statement}
 use Rattle.kept.proofs.mark.Tie as tie
 
@@ -31,7 +31,7 @@ returns c =
     let loop· = c.before.before.before.before.before.before.loop in
     let a = c.before.stands.ensures.yes c.if1.true in (
       rw loop·.invariant.4
-          (decides-false (λ h. omega (arith, a.0, a.1.2, h a.1.0 loop·.p a.1.1 (omega arith) a.1.2))),
+          (decides_false (λ h. omega (arith, a.0, a.1.2, h a.1.0 loop·.p a.1.1 (omega arith) a.1.2))),
       (λ e. no _ e loop·.invariant.4),
     )
 
@@ -43,13 +43,13 @@ loop-again c =
       omega arith,
       length-set marks· _ 1 ∙ loop·.invariant.1,
       apart_more (λ k. get_or kept· k 0) loop·.p loop·.invariant.2 (new kept· loop·.p (c.before.stands.ensures.no c.if1.false)),
-      mark-more kept· marks· loop·.p loop·.invariant.1 loop·.invariant.3,
+      mark_more kept· marks· loop·.p loop·.invariant.1 loop·.invariant.3,
       loop·.invariant.4,
     )
 
 returns-2 : tie.Need-returns-2 invariant-loop decreases-loop
 returns-2 c =
-    let loop· = c.before.loop in (decides-true (λ i j l m. loop·.invariant.2 i j l (omega arith)), (λ e k l. loop·.invariant.3 k (omega arith)))
+    let loop· = c.before.loop in (decides_true (λ i j l m. loop·.invariant.2 i j l (omega arith)), (λ e k l. loop·.invariant.3 k (omega arith)))
 
 pub mark_spec : {M : Type 1} → statement M
 mark_spec =

@@ -4,14 +4,14 @@ use mathlib.Core.Path.{◌≡◌, ap}
 use mathlib.Core.List.{List, [], ◌∷◌, ◌++◌, append_assoc}
 use borrow.Author.Rules.{rules}
 use Rattle.decimal.specs.Decimal.{decimal, blanked}
-use Rattle.line.specs.Text.{lineWith, written}
+use Rattle.line.specs.Text.{line_with, written}
 use Rattle.line.proofs.whole.Statement.{statement}
 use Rattle.line.proofs.whole.Tie as tie
 
 -- each piece behind what stands before it
 joined : (place : ℕ) (word ns a b c d e : List ℕ) → a ≡ decimal place → b ≡ a ++ (32 ∷ []) → c ≡ b ++ word → d ≡ c ++ blanked ns
-    → e ≡ d ++ (10 ∷ []) → e ≡ lineWith place word ns
-unfolding lineWith
+    → e ≡ d ++ (10 ∷ []) → e ≡ line_with place word ns
+unfolding line_with
 joined place word ns a b c d e p q r s t =
     rw (t, s, r, q, p) (ap (λ (x : List ℕ). (x ++ blanked ns) ++ (10 ∷ [])) (append_assoc (decimal place) (32 ∷ []) word))
 

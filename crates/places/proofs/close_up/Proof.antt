@@ -5,7 +5,7 @@ use mathlib.Core.Path.{◌≡◌, sym}
 use native.Mathlib.Omega.{arith}
 use lib.ListN.{length}
 use borrow.Author.Rules.{rules}
-use Rattle.places.proofs.Shift.{shifted, shifted-stay, shifted-turn, shifted_end}
+use Rattle.places.proofs.Shift.{shifted, shifted_stay, shifted_turn, shifted_end}
 use Rattle.places.proofs.close_up.Statement.{statement}
 use Rattle.places.proofs.close_up.Tie as tie
 
@@ -16,13 +16,13 @@ abbrev decreases-loop : tie.decreases-loop
 decreases-loop q₀ at end i₀ q i = end - i
 
 loop-holds : tie.Need-loop-init invariant-loop decreases-loop
-loop-holds c = (search rules, search rules, search rules, sym (shifted-stay c.args.q.now c.args.at))
+loop-holds c = (search rules, search rules, search rules, sym (shifted_stay c.args.q.now c.args.at))
 
 loop-again : tie.Need-loop-preserved invariant-loop decreases-loop
 loop-again c =
     let a = c.before.before.before.args in
     let s = c.before.before.loop in
-    let turn = shifted-turn a.q.now a.at s.i 0 (omega arith) (omega arith) in
+    let turn = shifted_turn a.q.now a.at s.i 0 (omega arith) (omega arith) in
     (search rules, search rules, search rules, rw s.invariant.3 turn)
 
 returns : tie.Need-returns invariant-loop decreases-loop

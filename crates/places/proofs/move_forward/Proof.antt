@@ -3,7 +3,7 @@ use mathlib.Core.Path.{◌≡◌}
 use native.Mathlib.Omega.{arith}
 use lib.ListN.{length}
 use borrow.Author.Rules.{rules}
-use Rattle.places.proofs.Classes.{moved-class}
+use Rattle.places.proofs.Classes.{moved_class}
 use Rattle.places.proofs.move_forward.Statement.{statement}
 use Rattle.places.proofs.move_forward.Tie as tie
 
@@ -11,7 +11,7 @@ returns : tie.Need-returns
 returns c =
     let a = c.before.before.args in
     let l : length a.q.now ≡ 2176 = search rules in
-    moved-class a.q.now a.class l (omega arith) a.from a.to _ (omega arith) (omega arith) c.shift_back.ensures
+    moved_class a.q.now a.class l (omega arith) a.from a.to _ (omega arith) (omega arith) c.shift_back.ensures
 
 pub move-forward-spec : {M : Type 1} → statement M
 move-forward-spec =

@@ -8,13 +8,13 @@ use borrow.Author.Rules.{rules}
 use Rattle.io.specs.Counts.{IsPrefixLen}
 use Rattle.text.specs.declared.Outcome.{Outcome}
 use Rattle.text.specs.Calls.{answer_of}
-use Rattle.refusal.specs.Said.{refusalLine}
+use Rattle.refusal.specs.Said.{refusal_line}
 use Rattle.refusal.proofs.put_refusal.Statement.{statement}
 use Rattle.refusal.proofs.put_refusal.Tie as tie
 
 -- the line of an outcome whose case is known
-told : (place : ℕ) (a b : Outcome) (n : ℕ) (to : List ℕ) → a ≡ b → n ≤ length to → take n to ≡ refusalLine place (answer_of b)
-    → IsPrefixLen n to × (take n to ≡ refusalLine place (answer_of a))
+told : (place : ℕ) (a b : Outcome) (n : ℕ) (to : List ℕ) → a ≡ b → n ≤ length to → take n to ≡ refusal_line place (answer_of b)
+    → IsPrefixLen n to × (take n to ≡ refusal_line place (answer_of a))
 told place a b n to e l h = ((l, sym (length-take-le n to l)), rw e h)
 
 returns-2 : tie.Need-returns-2

@@ -2,7 +2,7 @@
 use native.Mathlib.Omega.{arith}
 use borrow.Author.Rules.{rules}
 use Rattle.decimal.proofs.Runs.{at_most}
-use Rattle.refusal.specs.Said.{refusalStart}
+use Rattle.refusal.specs.Said.{refusal_start}
 use Rattle.refusal.proofs.put_start.Statement.{statement}
 use Rattle.refusal.proofs.put_start.Tie as tie
 
@@ -18,7 +18,7 @@ put-number-requires-2 c κs =
     omega (arith, at_most args.place 20 (omega arith) (omega arith), at_most args.number 20 (omega arith) (omega arith))
 
 returns : tie.Need-returns
-unfolding refusalStart
+unfolding refusal_start
 returns c =
     let args = c.before.before.before.before.before.before.before.before.before.before.before.before.before.before.before.before.before.before.before.args in (
       omega (arith, at_most args.place 20 (omega arith) (omega arith), at_most args.number 20 (omega arith) (omega arith)),

@@ -3,7 +3,7 @@
 use Rattle.std.proofs.Common.{◌≡◌, ◌-◌, ◌*◌, ◌^◌, ◌<◌, ◌≤◌, length, take, ap, length-take-le, rules}
 use Rattle.refusal.proofs.Outcomes.{no_length}
 use Rattle.text.specs.Calls.{answer_of}
-use Rattle.shown.proofs.Showing.{Stands, walked, refused-there, short-there, all_shown}
+use Rattle.shown.proofs.Showing.{Stands, walked, refused_there, short_there, all_shown}
 use Rattle.shown.proofs.show_block.Statement.{statement}
 use Rattle.shown.proofs.show_block.Tie as tie
 
@@ -20,7 +20,7 @@ returns c =
     let args = c.before.before.before.before.before.before.before.before.before.before.args in
     let show-record = c.before.before.before.show-record in
     let at = loop.at in (
-      refused-there args.input.now args.first at _ _ loop.place (answer_of show-record.result.outcome) (search rules) show-record.ensures.0
+      refused_there args.input.now args.first at _ _ loop.place (answer_of show-record.result.outcome) (search rules) show-record.ensures.0
           (no_length show-record.result.outcome c.match.keys2) loop.invariant.3 loop.invariant.4,
       search rules,
     )
@@ -42,7 +42,7 @@ returns-2 : tie.Need-returns-2 invariant-loop decreases-loop
 returns-2 c =
     let args = c.before.before.before.before.before.args in
     let loop = c.before.before.loop in
-    (short-there args.input.now args.first loop.at _ loop.place loop.invariant.3 (search rules) (search rules) loop.invariant.4, search rules)
+    (short_there args.input.now args.first loop.at _ loop.place loop.invariant.3 (search rules) (search rules) loop.invariant.4, search rules)
 
 returns-3 : tie.Need-returns-3 invariant-loop decreases-loop
 returns-3 c =

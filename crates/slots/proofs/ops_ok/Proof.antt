@@ -5,26 +5,26 @@ use mathlib.Core.Logic.{⊎_elim}
 use borrow.Author.Rules.{rules}
 use borrow.Author.Tests.{not-true, not-false}
 use borrow.Author.Count.{below_none, below_more}
-use Rattle.plain.specs.Sizes.{mostOps}
-use Rattle.plain.proofs.Deciding.{decides-true, decides-false}
+use Rattle.plain.specs.Sizes.{most_ops}
+use Rattle.plain.proofs.Deciding.{decides_true, decides_false}
 use Rattle.slots.specs.Rules.{OpAt}
 use Rattle.slots.proofs.ops_ok.Statement.{statement}
 use Rattle.slots.proofs.ops_ok.Tie as tie
 
 abbrev invariant-loop : tie.invariant-loop
-invariant-loop v n k₀ k = (k ≤ mostOps) × ((j : ℕ) → j < k → OpAt v j)
+invariant-loop v n k₀ k = (k ≤ most_ops) × ((j : ℕ) → j < k → OpAt v j)
 
 abbrev decreases-loop : tie.decreases-loop
-decreases-loop v n k₀ k = mostOps - k
+decreases-loop v n k₀ k = most_ops - k
 
 loop-holds : tie.Need-loop-init invariant-loop decreases-loop
 loop-holds c = (search rules, below_none _)
 
 returns : tie.Need-returns invariant-loop decreases-loop
-returns c = decides-false (λ h. c.before.op_ok.ensures.no (not-true _ c.if2.true) ((h _ (omega arith)).within (omega arith)))
+returns c = decides_false (λ h. c.before.op_ok.ensures.no (not-true _ c.if2.true) ((h _ (omega arith)).within (omega arith)))
 
 returns-2 : tie.Need-returns-2 invariant-loop decreases-loop
-returns-2 c = decides-false (λ h. c.before.op-zero.ensures.no (not-true _ c.if3.true) ((h _ (omega arith)).past (omega arith)))
+returns-2 c = decides_false (λ h. c.before.op-zero.ensures.no (not-true _ c.if3.true) ((h _ (omega arith)).past (omega arith)))
 
 loop-again : tie.Need-loop-preserved invariant-loop decreases-loop
 loop-again c =
@@ -37,7 +37,7 @@ loop-again c =
     )
 
 returns-3 : tie.Need-returns-3 invariant-loop decreases-loop
-returns-3 c = decides-true (λ k l. c.before.loop.invariant.1 k (omega arith))
+returns-3 c = decides_true (λ k l. c.before.loop.invariant.1 k (omega arith))
 
 pub ops-ok-spec : {M : Type 1} → statement M
 ops-ok-spec =

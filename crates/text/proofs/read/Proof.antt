@@ -3,7 +3,7 @@ use mathlib.Core.Path.{refl, ap, ◌∙◌}
 use borrow.Author.Rules.{rules}
 use borrow.Author.Tests.{not-true, not-false}
 use Rattle.plain.specs.Record.{request}
-use Rattle.slots.specs.Meaning.{requestOf}
+use Rattle.slots.specs.Meaning.{request_of}
 use Rattle.text.specs.Calls.{took, bad}
 use Rattle.text.proofs.Encoding.{record_of}
 use Rattle.text.proofs.read.Statement.{statement}
@@ -19,7 +19,7 @@ returns-2 c =
     let record-of-call = c.before.before.before.before.before.record_of in
     let v = parse.result.slot in
     let y = not-false _ if1.false in
-    took _ (requestOf v) (ap request record-of-call.ensures ∙ record_of v (parse.ensures.long y) (parse.ensures.new y)) (parse.ensures.stands y) c.before.before.hand-over.ensures
+    took _ (request_of v) (ap request record-of-call.ensures ∙ record_of v (parse.ensures.long y) (parse.ensures.new y)) (parse.ensures.stands y) c.before.before.hand-over.ensures
 
 pub read_spec : {M : Type 1} → statement M
 read_spec =

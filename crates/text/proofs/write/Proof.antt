@@ -6,9 +6,9 @@ use mathlib.Core.Option.{none-ne-some, some-injective}
 use mathlib.Core.List.{List}
 use borrow.Author.Tests.{not-true, not-false}
 use borrow.Author.Rules.{rules}
-use Rattle.plain.specs.Record.{isRecord, requestIn, request}
+use Rattle.plain.specs.Record.{is_record, request_in, request}
 use Rattle.slots.specs.declared.Slot.{Slot}
-use Rattle.slots.specs.Meaning.{requestOf}
+use Rattle.slots.specs.Meaning.{request_of}
 use Rattle.slots.specs.Rules.{ReadInto}
 use Rattle.text.specs.Text.{text_of}
 use Rattle.text.specs.Calls.{Answer, refused, Handed, Wrote}
@@ -16,26 +16,26 @@ use Rattle.text.proofs.write.Statement.{statement}
 use Rattle.text.proofs.write.Tie as tie
 
 -- bytes that are no record, and bytes that are one
-none-there : (bytes before : List ℕ) (v : Slot) (ok : Bool) → ok ≡ false → ReadInto bytes ok v → Wrote bytes before (refused 3) before
+none_there : (bytes before : List ℕ) (v : Slot) (ok : Bool) → ok ≡ false → ReadInto bytes ok v → Wrote bytes before (refused 3) before
 unfolding request
-none-there bytes before v ok f h =
-    let e : isRecord bytes ≡ false = sym h.ok-is ∙ f in
-    record { is-record = λ r q. absurd (none-ne-some r (rw e at q)); no_record = λ q. (refl, refl) }
+none_there bytes before v ok f h =
+    let e : is_record bytes ≡ false = sym h.ok_is ∙ f in
+    record { holds_record = λ r q. absurd (none-ne-some r (rw e at q)); no_record = λ q. (refl, refl) }
 
-one-there : (bytes before after : List ℕ) (a : Answer) (v : Slot) (ok : Bool) → ok ≡ true → ReadInto bytes ok v
-    → (t : List ℕ) → t ≡ text_of (requestOf v) → Handed t before a after → Wrote bytes before a after
+one_there : (bytes before after : List ℕ) (a : Answer) (v : Slot) (ok : Bool) → ok ≡ true → ReadInto bytes ok v
+    → (t : List ℕ) → t ≡ text_of (request_of v) → Handed t before a after → Wrote bytes before a after
 unfolding request
-one-there bytes before after a v ok y h t e handed =
-    let i : isRecord bytes ≡ true = sym h.ok-is ∙ y in
+one_there bytes before after a v ok y h t e handed =
+    let i : is_record bytes ≡ true = sym h.ok_is ∙ y in
     record {
-      is-record = λ r q.
-          let s : requestIn bytes ≡ r = some-injective (requestIn bytes) r (rw i at q) in
+      holds_record = λ r q.
+          let s : request_in bytes ≡ r = some-injective (request_in bytes) r (rw i at q) in
           subst (λ (x : List ℕ). Handed x before a after) (e ∙ ap text_of (h.request y ∙ s)) handed;
-      no_record = λ q. absurd (none-ne-some (requestIn bytes) (sym (rw i at q)));
+      no_record = λ q. absurd (none-ne-some (request_in bytes) (sym (rw i at q)));
     }
 
 returns : tie.Need-returns
-returns c = none-there _ _ _ _ (not-true _ c.if1.true) c.before.before.read-record.ensures.0
+returns c = none_there _ _ _ _ (not-true _ c.if1.true) c.before.before.read-record.ensures.0
 
 put-text-requires : tie.Need-put-text-requires
 put-text-requires c κs =
@@ -47,7 +47,7 @@ returns-2 c =
     let if1 = c.before.before.before.before.before.before.before.before.if1 in
     let read-record = c.before.before.before.before.before.before.before.before.before.before.read-record in
     let put-text = c.before.before.before.before.before.put-text in
-    one-there _ _ _ _ _ _ (not-false _ if1.false) read-record.ensures.0 _ put-text.ensures.1 c.before.before.hand-over.ensures
+    one_there _ _ _ _ _ _ (not-false _ if1.false) read-record.ensures.0 _ put-text.ensures.1 c.before.before.hand-over.ensures
 
 pub write_spec : {M : Type 1} → statement M
 write_spec =

@@ -1,6 +1,6 @@
 -- `booking_end` meets its contract: it looks at each place behind `at`, and none that it passed begins a booking. Assumes nothing.
 use Rattle.std.proofs.Common.{◌≡◌, ℕ, ◌+◌, ◌-◌, ◌<◌, ◌≤◌, false, ltb, List, length, get_or, sym, ◌∙◌, subst, arith, rules, ltb-false, ltb-true}
-use Rattle.plain.proofs.Tests.{by-test, no}
+use Rattle.plain.proofs.Tests.{by_test, no}
 use Rattle.typed.specs.Bookings.{parts, Begins}
 use Rattle.typed.proofs.booking_end.Statement.{statement}
 use Rattle.typed.proofs.booking_end.Tie as tie
@@ -9,7 +9,7 @@ use Rattle.typed.proofs.booking_end.Tie as tie
 passed : (t : List ℕ) (at i : ℕ) → parts (get_or t (i - 1) 0) (get_or t i 0) ≡ false → ((j : ℕ) → at < j → j < i → Begins t j → ⊥)
     → (j : ℕ) → at < j → j < i + 1 → Begins t j → ⊥
 passed t at i f h j a l b =
-    by-test (ltb j i)
+    by_test (ltb j i)
     (λ y. h j a (ltb-true j i y) b)
     (λ n. let e : j ≡ i = omega (arith, ltb-false j i n) in no _ (subst (Begins t) e b) f)
 

@@ -1,14 +1,14 @@
 -- `goes_on` meets its contract: by the three tests. Assumes nothing.
 use Rattle.std.proofs.Common.{◌≡◌, ℕ, ◌-◌, ◌<◌, ◌≤◌, Bool, false, leb, rules, le-leb}
 use borrow.Author.Tests.{lt-leb}
-use Rattle.typed.specs.Taking.{longest, goesOn}
+use Rattle.typed.specs.Taking.{longest, may_go_on}
 use Rattle.typed.proofs.goes_on.Statement.{statement}
 use Rattle.typed.proofs.goes_on.Tie as tie
 
-ends-before : (at end n : ℕ) (last : Bool) → last ≡ false → end < n → false ≡ goesOn at end n last
+ends-before : (at end n : ℕ) (last : Bool) → last ≡ false → end < n → false ≡ may_go_on at end n last
 ends-before at end n last f l = rw (f, lt-leb n end l)
 
-by-its-length : (at end n : ℕ) (last : Bool) → last ≡ false → n ≤ end → leb (end - at) longest ≡ goesOn at end n last
+by-its-length : (at end n : ℕ) (last : Bool) → last ≡ false → n ≤ end → leb (end - at) longest ≡ may_go_on at end n last
 by-its-length at end n last f l = rw (f, le-leb n end l)
 
 returns-2 : tie.Need-returns-2

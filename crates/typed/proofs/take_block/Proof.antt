@@ -3,7 +3,7 @@
 use Rattle.std.proofs.Common.{◌≡◌, ◌-◌, ◌*◌, ◌^◌, ◌<◌, ◌≤◌, length, take, sym, ap, ◌∙◌, length-take-le, rules}
 use Rattle.text.specs.Calls.{answer_of}
 use Rattle.refusal.proofs.Outcomes.{no_length}
-use Rattle.typed.proofs.Taking.{SoFar, nothing_yet, left_over, all-taken, walked, refused-there}
+use Rattle.typed.proofs.Taking.{SoFar, nothing_yet, left_over, all_taken, walked, refused_there}
 use Rattle.typed.proofs.take_block.Statement.{statement}
 use Rattle.typed.proofs.take_block.Tie as tie
 
@@ -36,7 +36,7 @@ returns-2 c =
     let booking-end = c.before.before.before.before.before.before.before.before.booking-end in
     let read = c.before.before.before.read in
     let t = args.input.now in (
-      refused-there t args.last args.first loop.records loop.len loop.at loop.place loop.invariant.4 booking-end.result booking-end.ensures
+      refused_there t args.last args.first loop.records loop.len loop.at loop.place loop.invariant.4 booking-end.result booking-end.ensures
           (sym c.before.before.before.before.before.before.before.goes_on.ensures ∙ c.before.before.before.before.before.before.if1.false) (search rules) (answer_of read.result) _ _ read.ensures (no_length read.result c.match.keys2),
       search rules,
     )
@@ -60,7 +60,7 @@ returns-3 : tie.Need-returns-3 invariant-loop decreases-loop
 returns-3 c =
     let args = c.before.before.before.before.args in
     let loop = c.before.loop in
-    (all-taken args.input.now args.last args.first _ loop.at loop.place loop.invariant.4 loop.len (length-take-le loop.len loop.records (search rules)) (search rules), search rules)
+    (all_taken args.input.now args.last args.first _ loop.at loop.place loop.invariant.4 loop.len (length-take-le loop.len loop.records (search rules)) (search rules), search rules)
 
 pub take-block-spec : {M : Type 1} → statement M
 take-block-spec =

@@ -3,18 +3,18 @@ use Prim.Native.Nat.{◌-◌, ◌≤◌}
 use native.Mathlib.Omega.{arith}
 use borrow.Author.Rules.{rules}
 use borrow.Author.Tests.{not-true, not-false}
-use Rattle.plain.specs.Sizes.{classCount}
-use Rattle.plain.proofs.Deciding.{decides-false, decides-as}
-use Rattle.store.specs.Checks.{flagOf, mayStand, nth}
-use Rattle.store.proofs.Taking.{Seen, none_seen, one_seen, not-once, spent, once-of, nothing_left, all-free, all_read}
+use Rattle.plain.specs.Sizes.{class_count}
+use Rattle.plain.proofs.Deciding.{decides_false, decides_as}
+use Rattle.store.specs.Checks.{flag_of, may_stand, nth}
+use Rattle.store.proofs.Taking.{Seen, none_seen, one_seen, not_once, spent, once_of, nothing_left, all_free, all_read}
 use Rattle.checks.proofs.once.each_once.Statement.{statement}
 use Rattle.checks.proofs.once.each_once.Tie as tie
 
 abbrev invariant-loop : tie.invariant-loop
-invariant-loop classes queue lens low high u₀ c₀ u c = (c ≤ classCount) × Seen (mayStand (flagOf u₀.lo u₀.hi) (nth classes) u₀.table) (mayStand (flagOf u.lo u.hi) (nth classes) u.table) queue lens c
+invariant-loop classes queue lens low high u₀ c₀ u c = (c ≤ class_count) × Seen (may_stand (flag_of u₀.lo u₀.hi) (nth classes) u₀.table) (may_stand (flag_of u.lo u.hi) (nth classes) u.table) queue lens c
 
 abbrev decreases-loop : tie.decreases-loop
-decreases-loop classes queue lens low high u₀ c₀ u c = classCount - c
+decreases-loop classes queue lens low high u₀ c₀ u c = class_count - c
 
 loop-holds : tie.Need-loop-init invariant-loop decreases-loop
 loop-holds c = (search rules, none_seen _ _ _)
@@ -35,9 +35,9 @@ returns c =
     let c₃ = c₂.before in
     let the-args = c₃.args in
     let loop· = c₂.loop in
-    decides-false (not-once (mayStand (flagOf the-args.low the-args.high) (nth the-args.classes.now) the-args.table) the-args.queue.now
-    the-args.lens.now (mayStand (flagOf loop·.u.lo loop·.u.hi) (nth the-args.classes.now) loop·.u.table) loop·.c
-    c₁.loop-test.true loop·.invariant.1 (c.before.before.class-once.ensures.one-barred (not-true _ c.if1.true)))
+    decides_false (not_once (may_stand (flag_of the-args.low the-args.high) (nth the-args.classes.now) the-args.table) the-args.queue.now
+    the-args.lens.now (may_stand (flag_of loop·.u.lo loop·.u.hi) (nth the-args.classes.now) loop·.u.table) loop·.c
+    c₁.loop-test.true loop·.invariant.1 (c.before.before.class-once.ensures.one_barred (not-true _ c.if1.true)))
 
 loop-again : tie.Need-loop-preserved invariant-loop decreases-loop
 loop-again c =
@@ -47,9 +47,9 @@ loop-again c =
     let the-args = c₃.args in
     let loop· = c₂.loop in (
       search rules,
-      one_seen (mayStand (flagOf the-args.low the-args.high) (nth the-args.classes.now) the-args.table) the-args.queue.now
-          the-args.lens.now (mayStand (flagOf loop·.u.lo loop·.u.hi) (nth the-args.classes.now) loop·.u.table) loop·.c
-          c₁.loop-test.true loop·.invariant.1 _ (c.before.before.class-once.ensures.all-taken (not-false _ c.if1.false)),
+      one_seen (may_stand (flag_of the-args.low the-args.high) (nth the-args.classes.now) the-args.table) the-args.queue.now
+          the-args.lens.now (may_stand (flag_of loop·.u.lo loop·.u.hi) (nth the-args.classes.now) loop·.u.table) loop·.c
+          c₁.loop-test.true loop·.invariant.1 _ (c.before.before.class-once.ensures.all_taken (not-false _ c.if1.false)),
     )
 
 returns-2 : tie.Need-returns-2 invariant-loop decreases-loop
@@ -58,9 +58,9 @@ returns-2 c =
     let c₂ = c₁.before in
     let the-args = c₂.args in
     let loop· = c₁.loop in
-    decides-false (λ once. c.if2.true (all-free (nth the-args.classes.now) loop·.u.table loop·.u.lo loop·.u.hi c₂.requires.3 (spent
-    (mayStand (flagOf the-args.low the-args.high) (nth the-args.classes.now) the-args.table) the-args.queue.now the-args.lens.now (mayStand
-    (flagOf loop·.u.lo loop·.u.hi) (nth the-args.classes.now) loop·.u.table) loop·.c (omega arith) loop·.invariant.1 once)
+    decides_false (λ once. c.if2.true (all_free (nth the-args.classes.now) loop·.u.table loop·.u.lo loop·.u.hi c₂.requires.3 (spent
+    (may_stand (flag_of the-args.low the-args.high) (nth the-args.classes.now) the-args.table) the-args.queue.now the-args.lens.now (may_stand
+    (flag_of loop·.u.lo loop·.u.hi) (nth the-args.classes.now) loop·.u.table) loop·.c (omega arith) loop·.invariant.1 once)
     (search rules) (search rules)).0)
 
 returns-3 : tie.Need-returns-3 invariant-loop decreases-loop
@@ -69,9 +69,9 @@ returns-3 c =
     let c₂ = c₁.before in
     let the-args = c₂.args in
     let loop· = c₁.loop in
-    decides-false (λ once. c.if3.true (all-free (nth the-args.classes.now) loop·.u.table loop·.u.lo loop·.u.hi c₂.requires.3 (spent
-    (mayStand (flagOf the-args.low the-args.high) (nth the-args.classes.now) the-args.table) the-args.queue.now the-args.lens.now (mayStand
-    (flagOf loop·.u.lo loop·.u.hi) (nth the-args.classes.now) loop·.u.table) loop·.c (omega arith) loop·.invariant.1 once)
+    decides_false (λ once. c.if3.true (all_free (nth the-args.classes.now) loop·.u.table loop·.u.lo loop·.u.hi c₂.requires.3 (spent
+    (may_stand (flag_of the-args.low the-args.high) (nth the-args.classes.now) the-args.table) the-args.queue.now the-args.lens.now (may_stand
+    (flag_of loop·.u.lo loop·.u.hi) (nth the-args.classes.now) loop·.u.table) loop·.c (omega arith) loop·.invariant.1 once)
     (search rules) (search rules)).1)
 
 returns-4 : tie.Need-returns-4 invariant-loop decreases-loop
@@ -81,12 +81,12 @@ returns-4 c =
     let c₃ = c₂.before in
     let loop· = c₂.loop in
     let the-args = c₃.args in
-    decides-as (λ r. once-of (mayStand (flagOf the-args.low the-args.high) (nth the-args.classes.now) the-args.table) the-args.queue.now
-    the-args.lens.now (mayStand (flagOf loop·.u.lo loop·.u.hi) (nth the-args.classes.now) loop·.u.table) loop·.c (omega arith)
+    decides_as (λ r. once_of (may_stand (flag_of the-args.low the-args.high) (nth the-args.classes.now) the-args.table) the-args.queue.now
+    the-args.lens.now (may_stand (flag_of loop·.u.lo loop·.u.hi) (nth the-args.classes.now) loop·.u.table) loop·.c (omega arith)
     loop·.invariant.1 (nothing_left (nth the-args.classes.now) loop·.u.table loop·.u.lo loop·.u.hi c₁.if2.false
     c.before.before.if3.false r)) (λ once. all_read (nth the-args.classes.now) loop·.u.table loop·.u.lo loop·.u.hi c₃.requires.3
-    (spent (mayStand (flagOf the-args.low the-args.high) (nth the-args.classes.now) the-args.table) the-args.queue.now the-args.lens.now
-    (mayStand (flagOf loop·.u.lo loop·.u.hi) (nth the-args.classes.now) loop·.u.table) loop·.c (omega arith) loop·.invariant.1 once))
+    (spent (may_stand (flag_of the-args.low the-args.high) (nth the-args.classes.now) the-args.table) the-args.queue.now the-args.lens.now
+    (may_stand (flag_of loop·.u.lo loop·.u.hi) (nth the-args.classes.now) loop·.u.table) loop·.c (omega arith) loop·.invariant.1 once))
     c.all_read.ensures
 
 pub each-once-spec : {M : Type 1} → statement M

@@ -1,12 +1,12 @@
 -- A mask that is not 0 names a class. Assumes nothing.
 use borrow.Author.Rules.{rules}
-use Rattle.plain.proofs.Deciding.{decides-as, decides_eq}
-use Rattle.store.proofs.Taking.{names-zero, names-none}
+use Rattle.plain.proofs.Deciding.{decides_as, decides_eq}
+use Rattle.store.proofs.Taking.{names_zero, names_none_lem}
 use Rattle.checks.proofs.once.names_none.Statement.{statement}
 use Rattle.checks.proofs.once.names_none.Tie as tie
 
 returns : tie.Need-returns
-returns c = decides-as (λ e d _. names-none _ d e) (λ h. names-zero _ (search rules) h) (decides_eq _ 0)
+returns c = decides_as (λ e d _. names_none_lem _ d e) (λ h. names_zero _ (search rules) h) (decides_eq _ 0)
 
 pub names-none-spec : {M : Type 1} → statement M
 names-none-spec = tie.close (tie.spec returns)

@@ -6,9 +6,9 @@ use lib.ListN.{length, length-map}
 use borrow.Author.Rules.{rules}
 use borrow.Author.Tests.{not-true, not-false}
 use Rattle.plain.proofs.Tests.{no}
-use Rattle.store.specs.Store.{queryAt}
-use Rattle.store.specs.Checks.{flagOf}
-use Rattle.store.proofs.Taking.{query-taken, not_named, past_all}
+use Rattle.store.specs.Store.{query_at}
+use Rattle.store.specs.Checks.{flag_of}
+use Rattle.store.proofs.Taking.{query_taken, not_named, past_all}
 use Rattle.checks.proofs.once.take_entry.Statement.{statement}
 use Rattle.checks.proofs.once.take_entry.Tie as tie
 
@@ -18,7 +18,7 @@ returns c =
     let n : length the-args.t1.table ≡ 8 = sym (length-map the-args.t1.table _) ∙ c.before.well-formed.0.1.1.1.1.1.0.1.0.1 in
     λ k. record {
       taken = λ t. no _ t refl;
-      barred = λ _. past_all (flagOf the-args.t1.lo the-args.t1.hi) k the-args.t1.table n the-args.c
+      barred = λ _. past_all (flag_of the-args.t1.lo the-args.t1.hi) k the-args.t1.table n the-args.c
           the-args.b c.if1.true;
     }
 
@@ -28,7 +28,7 @@ returns-2 c =
     let the-args = c₁.args in
     λ k. record {
       taken = λ t. no _ t refl;
-      barred = λ _. not_named (flagOf the-args.t1.lo the-args.t1.hi) k the-args.t1.table the-args.c
+      barred = λ _. not_named (flag_of the-args.t1.lo the-args.t1.hi) k the-args.t1.table the-args.c
           the-args.b c₁.requires.0 (sym c.before.names.ensures ∙ not-true _ c.if2.true);
     }
 
@@ -41,8 +41,8 @@ returns-3 c =
     let without-class· = c.without-class in
     let n : length the-args.t1.table ≡ 8 = sym (length-map the-args.t1.table _) ∙ c₂.well-formed.0.1.1.1.1.1.0.1.0.1 in
     λ k. record {
-      taken = λ _. query-taken (flagOf the-args.t1.lo the-args.t1.hi) k the-args.t1.table the-args.c the-args.b pre·.0
-          (record { classes = without-class·.result; begun = (queryAt the-args.t1.table (the-args.b - 128)).begun }) pre·.1 (omega
+      taken = λ _. query_taken (flag_of the-args.t1.lo the-args.t1.hi) k the-args.t1.table the-args.c the-args.b pre·.0
+          (record { classes = without-class·.result; begun = (query_at the-args.t1.table (the-args.b - 128)).begun }) pre·.1 (omega
           (arith, n, c₁.if1.false)) (sym c.before.before.names.ensures ∙ not-false _ c.before.if2.false)
           without-class·.ensures;
       barred = λ f. no _ refl f;

@@ -4,7 +4,7 @@ use borrow.Author.Rules.{rules}
 use borrow.Author.Tests.{not-true, not-false}
 use Rattle.plain.proofs.Tests.{no}
 use Rattle.store.specs.Checks.{nth}
-use Rattle.store.proofs.Taking.{slot-taken, other-class, not-used}
+use Rattle.store.proofs.Taking.{slot_taken, other_class, not_used}
 use Rattle.checks.proofs.once.take_slot.Statement.{statement}
 use Rattle.checks.proofs.once.take_slot.Tie as tie
 
@@ -13,7 +13,7 @@ returns c =
     let the-args = c.before.before.args in
     record {
       taken = λ t. no _ t refl;
-      barred = λ _. other-class the-args.u.lo the-args.u.hi (nth the-args.classes.now) the-args.u.table
+      barred = λ _. other_class the-args.u.lo the-args.u.hi (nth the-args.classes.now) the-args.u.table
           the-args.c the-args.b c.before.before.requires c.if1.true;
     }
 
@@ -23,8 +23,8 @@ returns-2 c =
     let the-args = c₁.args in
     record {
       taken = λ t. no _ t refl;
-      barred = λ _. not-used the-args.u.lo the-args.u.hi (nth the-args.classes.now) the-args.u.table the-args.c
-          the-args.b c₁.requires (sym c.before.is-used.ensures ∙ not-true _ c.if2.true);
+      barred = λ _. not_used the-args.u.lo the-args.u.hi (nth the-args.classes.now) the-args.u.table the-args.c
+          the-args.b c₁.requires (sym c.before.is_used_lem.ensures ∙ not-true _ c.if2.true);
     }
 
 returns-3 : tie.Need-returns-3
@@ -33,8 +33,8 @@ returns-3 c =
     let c₂ = c₁.before.before in
     let the-args = c₂.args in
     record {
-      taken = λ _. slot-taken the-args.u.lo the-args.u.hi (nth the-args.classes.now) the-args.u.table the-args.c the-args.b c₂.requires _ _
-          c₁.if1.false (sym c.before.before.is-used.ensures ∙ not-false _ c.before.if2.false) c.with-free.ensures;
+      taken = λ _. slot_taken the-args.u.lo the-args.u.hi (nth the-args.classes.now) the-args.u.table the-args.c the-args.b c₂.requires _ _
+          c₁.if1.false (sym c.before.before.is_used_lem.ensures ∙ not-false _ c.before.if2.false) c.with-free.ensures;
       barred = λ f. no _ refl
           f;
     }

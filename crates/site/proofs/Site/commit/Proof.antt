@@ -6,7 +6,7 @@ use lib.ListN.{get_or, drop}
 use Rattle.site.specs.Held.{store}
 use Rattle.site.proofs.Shape.{shaped}
 use Rattle.store.specs.Meaning.{places}
-use Rattle.store.proofs.Commit.{head-is, commit-laid, commit-means, copied, uncopied}
+use Rattle.store.proofs.Commit.{head_is, commit_laid, commit_means, copied, uncopied}
 use lib.ListN.{length-set}
 use borrow.Author.Rules.{rules}
 use Rattle.site.proofs.Site.commit.Statement.{statement}
@@ -38,13 +38,13 @@ cast-take-head : tie.Need-overflow-cast-take-head
 cast-take-head c =
     let c₁ = c.before.before.before.before.before.before.before.before.before.before.before in
     let pre· = c₁.requires in
-    record { fits = omega (arith, pre·.laid.not-longer-than-136 c₁.args.c pre·.class) }
+    record { fits = omega (arith, pre·.laid.not_longer_than_136 c₁.args.c pre·.class) }
 
 take-head-requires : tie.Need-take-head-requires
 take-head-requires c κs =
     let c₁ = c.before.before.before.before.before.before.before.before.before.before.before in
     let pre· = c₁.requires in
-    (pre·.some, pre·.laid.not-longer-than-136 c₁.args.c pre·.class, pre·.class)
+    (pre·.some, pre·.laid.not_longer_than_136 c₁.args.c pre·.class, pre·.class)
 
 returns : tie.Need-returns
 returns c =
@@ -54,7 +54,7 @@ returns c =
     let c₄ = c₃.before.before.before.before in
     let the-args = c₄.args in
     let pre· = c₄.requires in
-    let free-slot· = c₂.free-slot in
+    let free-slot· = c₂.slot_was_free in
     let take-head· = c.take_head in
     let with-free· = c₁.with-free in
     let copy-class· = c₃.copy-class in
@@ -65,15 +65,15 @@ returns c =
     let k = the-args.c in
     let i = get_or s.queue (136 * k) 0 in
     let ps = drop 1 (places s k) in
-    let head = head-is s w pre·.laid k pre·.class pre·.some in
+    let head = head_is s w pre·.laid k pre·.class pre·.some in
     record {
       laid =
-          commit-laid s _ w pre·.laid k i ps pre·.class head (rw free-slot·.ensures) refl take-head·.ensures.own
+          commit_laid s _ w pre·.laid k i ps pre·.class head (rw free-slot·.ensures) refl take-head·.ensures.own
           take-head·.ensures.others with-free·.ensures pre·.request refl refl refl;
       slots = length-set s.slots i _;
       cells = copy-class·.auto.0 ∙ pre·.cells.0;
       site =
-          λ e. commit-means s _ w pre·.laid k i ps pre·.class head (rw free-slot·.ensures) refl take-head·.ensures.own
+          λ e. commit_means s _ w pre·.laid k i ps pre·.class head (rw free-slot·.ensures) refl take-head·.ensures.own
           take-head·.ensures.others with-free·.ensures pre·.request refl refl refl
           base wrk copy-class·.new.0
           (copied base wrk copy-class·.new.0 k pre·.class pre·.cells.0 pre·.cells.1 copy-class·.ensures)

@@ -1,8 +1,8 @@
 -- `Site::confirm` meets its contract: refused as it was judged, committed, or moved forward. Assumes nothing.
 use Rattle.site.specs.Held.{state_of}
 use Rattle.site.proofs.Shape.{shaped}
-use Rattle.store.proofs.Promise.{called-did}
-use Rattle.site.proofs.Confirmation.{small-class, in-queue}
+use Rattle.store.proofs.Promise.{called_did}
+use Rattle.site.proofs.Confirmation.{small_class, in_queue}
 use borrow.Author.Rules.{rules}
 use Rattle.site.proofs.Site.confirm.Statement.{statement}
 use Rattle.site.proofs.Site.confirm.Tie as tie
@@ -17,7 +17,7 @@ head-done-requires c κs =
     let the-args = c₁.args in
     let j· = judge-confirm·.ensures.act c.if1.false in (
       j·.ready.small,
-      rw j·.class (small-class (state_of the-args.self the-args.committed.now the-args.working.now) (shaped the-args.self _ c₁.well-formed.0)
+      rw j·.class (small_class (state_of the-args.self the-args.committed.now the-args.working.now) (shaped the-args.self _ c₁.well-formed.0)
           judge-confirm·.result.slot j·.ready),
       j·.class,
     )
@@ -34,7 +34,7 @@ returns-2 c =
     let c₁ = c.before.before.before.before.before.before.before in
     let c₂ = c₁.before.before in
     let j· = c₂.judge-confirm.ensures.act c₁.if1.false in
-    called-did _ _ _ _ j·.ready.right j·.ready.sound (rw (← j·.is, j·.next) c.before.before.confirm-now.ensures)
+    called_did _ _ _ _ j·.ready.right j·.ready.sound (rw (← j·.is, j·.next) c.before.before.confirm_now.ensures)
 
 place-of-requires : tie.Need-place-of-requires
 place-of-requires c κs =
@@ -43,7 +43,7 @@ place-of-requires c κs =
     let judge-confirm· = c₁.judge-confirm in
     let the-args = c₂.args in
     let j· = judge-confirm·.ensures.act c.before.before.if1.false in
-    rw j·.class (in-queue (state_of the-args.self the-args.committed.now the-args.working.now) (shaped the-args.self _ c₂.well-formed.0)
+    rw j·.class (in_queue (state_of the-args.self the-args.committed.now the-args.working.now) (shaped the-args.self _ c₂.well-formed.0)
     judge-confirm·.result.slot j·.ready)
 
 first-waiting-requires : tie.Need-first-waiting-requires
@@ -55,7 +55,7 @@ first-waiting-requires c κs =
     let the-args = c₃.args in
     let j· = judge-confirm·.ensures.act c₁.if1.false in (
       j·.ready.sound.laid,
-      rw j·.class (small-class (state_of the-args.self the-args.committed.now the-args.working.now) (shaped the-args.self
+      rw j·.class (small_class (state_of the-args.self the-args.committed.now the-args.working.now) (shaped the-args.self
           _ c₃.well-formed.0) judge-confirm·.result.slot j·.ready),
     )
 
@@ -79,7 +79,7 @@ returns-3 c =
     let c₁ = c.before.before.before.before.before.before.before.before.before in
     let c₂ = c₁.before.before in
     let j· = c₂.judge-confirm.ensures.act c₁.if1.false in
-    called-did _ _ _ _ j·.ready.right j·.ready.sound (rw (← j·.is, j·.next) c.before.before.confirm-later.ensures)
+    called_did _ _ _ _ j·.ready.right j·.ready.sound (rw (← j·.is, j·.next) c.before.before.confirm-later.ensures)
 
 pub confirm-spec : {M : Type 1} → statement M
 confirm-spec =

@@ -5,7 +5,7 @@ use native.Mathlib.Omega.{arith}
 use Rattle.site.specs.Held.{store, state_of}
 use Rattle.site.proofs.Shape.{shaped}
 use Rattle.store.specs.Store.{Store}
-use Rattle.site.proofs.Confirmation.{small-class, small-sum, done-within, head-waits, may-back, sum-may-back, not_back, put-back-did, stayed-did}
+use Rattle.site.proofs.Confirmation.{small_class, small_sum, done_within, head_waits, may_back, sum_may_back, not_back, put_back_did, stayed_did}
 use borrow.Author.Rules.{rules}
 use Rattle.site.proofs.Site.confirm_later.Statement.{statement}
 use Rattle.site.proofs.Site.confirm_later.Tie as tie
@@ -16,7 +16,7 @@ element-copy-out-first c =
     let the-args = c₁.args in
     let x· = state_of the-args.t1 the-args.committed.now the-args.working.now in
     let w· = shaped the-args.t1 _ c₁.well-formed.0 in
-    omega (arith, small-class x· w· the-args.i c₁.requires.0.0)
+    omega (arith, small_class x· w· the-args.i c₁.requires.0.0)
 
 sub-left : tie.Need-overflow-sub-left
 sub-left c =
@@ -25,7 +25,7 @@ sub-left c =
     let pre· = c₁.requires in
     let x· = state_of the-args.t1 the-args.committed.now the-args.working.now in
     let w· = shaped the-args.t1 _ c₁.well-formed.0 in
-    done-within x· w· the-args.i pre·.0.0 the-args.from pre·.1.0
+    done_within x· w· the-args.i pre·.0.0 the-args.from pre·.1.0
 
 element-copy-out-w : tie.Need-element-copy-out-w
 element-copy-out-w c =
@@ -33,7 +33,7 @@ element-copy-out-w c =
     let the-args = c₁.args in
     let x· = state_of the-args.t1 the-args.committed.now the-args.working.now in
     let w· = shaped the-args.t1 _ c₁.well-formed.0 in
-    small-class x· w· the-args.i c₁.requires.0.0
+    small_class x· w· the-args.i c₁.requires.0.0
 
 add-w : tie.Need-overflow-add-w
 add-w c =
@@ -41,7 +41,7 @@ add-w c =
     let the-args = c₁.args in
     let x· = state_of the-args.t1 the-args.committed.now the-args.working.now in
     let w· = shaped the-args.t1 _ c₁.well-formed.0 in
-    let few· = small-sum x· w· the-args.i c₁.requires.0.0 in
+    let few· = small_sum x· w· the-args.i c₁.requires.0.0 in
     record { fits = omega (arith, few·.0, few·.1) }
 
 element-write-self : tie.Need-element-write-self
@@ -50,7 +50,7 @@ element-write-self c =
     let the-args = c₁.args in
     let x· = state_of the-args.t1 the-args.committed.now the-args.working.now in
     let w· = shaped the-args.t1 _ c₁.well-formed.0 in
-    small-class x· w· the-args.i c₁.requires.0.0
+    small_class x· w· the-args.i c₁.requires.0.0
 
 mul-head : tie.Need-overflow-mul-head
 mul-head c =
@@ -59,7 +59,7 @@ mul-head c =
     let pre· = c₁.requires in
     let x· = state_of the-args.t1 the-args.committed.now the-args.working.now in
     let w· = shaped the-args.t1 _ c₁.well-formed.0 in
-    let m = (head-waits x· w· the-args.i pre·.0.0 the-args.to pre·.1.1 c.if2.true).0 in
+    let m = (head_waits x· w· the-args.i pre·.0.0 the-args.to pre·.1.1 c.if2.true).0 in
     record { fits = omega arith }
 
 element-copy-out-head : tie.Need-element-copy-out-head
@@ -69,7 +69,7 @@ element-copy-out-head c =
     let pre· = c₁.requires in
     let x· = state_of the-args.t1 the-args.committed.now the-args.working.now in
     let w· = shaped the-args.t1 _ c₁.well-formed.0 in
-    (head-waits x· w· the-args.i pre·.0.0 the-args.to pre·.1.1 c.if2.true).0
+    (head_waits x· w· the-args.i pre·.0.0 the-args.to pre·.1.1 c.if2.true).0
 
 put-back-requires : tie.Need-put-back-requires
 put-back-requires c κs =
@@ -79,9 +79,9 @@ put-back-requires c κs =
     let pre· = c₁.requires in
     let x· = state_of the-args.t1 the-args.committed.now the-args.working.now in
     let w· = shaped the-args.t1 _ good·.0 in
-    let back· = may-back x· w· the-args.i pre·.0.0 (omega (arith, good·.0))
-    (head-waits x· w· the-args.i pre·.0.0 the-args.to pre·.1.1 c.before.before.if2.true).0 in
-    sum-may-back x· w· the-args.i pre·.0.0 the-args.from the-args.to pre·.1.0 pre·.1.1 _ refl back·
+    let back· = may_back x· w· the-args.i pre·.0.0 (omega (arith, good·.0))
+    (head_waits x· w· the-args.i pre·.0.0 the-args.to pre·.1.1 c.before.before.if2.true).0 in
+    sum_may_back x· w· the-args.i pre·.0.0 the-args.from the-args.to pre·.1.0 pre·.1.1 _ refl back·
 
 forward-requires : tie.Need-forward-requires
 forward-requires c κs =
@@ -91,9 +91,9 @@ forward-requires c κs =
     let x· = state_of the-args.t1 the-args.committed.now the-args.working.now in
     let w· = shaped the-args.t1 _ c₁.well-formed.0 in (
       pre·.0.0.small,
-      small-class x· w· the-args.i pre·.0.0,
+      small_class x· w· the-args.i pre·.0.0,
       not_back x· w· the-args.i pre·.0.0 the-args.from the-args.to pre·.1.0 pre·.1.1,
-      omega (arith, pre·.1.0.within, pre·.0.0.sound.laid.not-longer-than-136 _ (small-class x· w· the-args.i pre·.0.0)),
+      omega (arith, pre·.1.0.within, pre·.0.0.sound.laid.not_longer_than_136 _ (small_class x· w· the-args.i pre·.0.0)),
       omega (arith, ap (λ (z : Store). z.confirmations) c.before.before.put_back.ensures.is, pre·.0.0.more),
     )
 
@@ -103,7 +103,7 @@ cast-t37 c =
     let the-args = c₁.args in
     let x· = state_of the-args.t1 the-args.committed.now the-args.working.now in
     let w· = shaped the-args.t1 _ c₁.well-formed.0 in
-    let few· = small-sum x· w· the-args.i c₁.requires.0.0 in
+    let few· = small_sum x· w· the-args.i c₁.requires.0.0 in
     record { fits = omega (arith, few·.0, few·.1) }
 
 returns : tie.Need-returns
@@ -118,7 +118,7 @@ returns c =
     let forward· = c.forward in
     let x· = state_of the-args.t1 the-args.committed.now the-args.working.now in
     let w· = shaped the-args.t1 _ c₄.well-formed.0 in
-    put-back-did x· w· the-args.i pre·.0.0 the-args.from the-args.to pre·.1.0 pre·.1.1 _ refl c₃.if1.true c₂.if2.true
+    put_back_did x· w· the-args.i pre·.0.0 the-args.from the-args.to pre·.1.0 pre·.1.1 _ refl c₃.if1.true c₂.if2.true
     (store put-back·.result) _ put-back·.ensures (store forward·.result) forward·.ensures
 
 forward-requires-2 : tie.Need-forward-requires-2
@@ -129,9 +129,9 @@ forward-requires-2 c κs =
     let x· = state_of the-args.t1 the-args.committed.now the-args.working.now in
     let w· = shaped the-args.t1 _ c₁.well-formed.0 in (
       pre·.0.0.small,
-      small-class x· w· the-args.i pre·.0.0,
+      small_class x· w· the-args.i pre·.0.0,
       not_back x· w· the-args.i pre·.0.0 the-args.from the-args.to pre·.1.0 pre·.1.1,
-      omega (arith, pre·.1.0.within, pre·.0.0.sound.laid.not-longer-than-136 _ (small-class x· w· the-args.i pre·.0.0)),
+      omega (arith, pre·.1.0.within, pre·.0.0.sound.laid.not_longer_than_136 _ (small_class x· w· the-args.i pre·.0.0)),
       pre·.0.0.more,
     )
 
@@ -141,7 +141,7 @@ cast-t41 c =
     let the-args = c₁.args in
     let x· = state_of the-args.t1 the-args.committed.now the-args.working.now in
     let w· = shaped the-args.t1 _ c₁.well-formed.0 in
-    let few· = small-sum x· w· the-args.i c₁.requires.0.0 in
+    let few· = small_sum x· w· the-args.i c₁.requires.0.0 in
     record { fits = omega (arith, few·.0, few·.1) }
 
 returns-2 : tie.Need-returns-2
@@ -152,7 +152,7 @@ returns-2 c =
     let forward2· = c.forward2 in
     let x· = state_of the-args.t1 the-args.committed.now the-args.working.now in
     let w· = shaped the-args.t1 _ c₁.well-formed.0 in
-    stayed-did x· w· the-args.i pre·.0.0 the-args.from the-args.to pre·.1.0 pre·.1.1 _ refl pre·.0.1
+    stayed_did x· w· the-args.i pre·.0.0 the-args.from the-args.to pre·.1.0 pre·.1.1 _ refl pre·.0.1
     (⊎_elim (λ z. inr (z.0.taken, z.1.left)) (λ z. inl z.left) c.before.if1.branch) (store forward2·.result) forward2·.ensures
 
 pub confirm-later-spec : {M : Type 1} → statement M

@@ -13,7 +13,7 @@ waits-from-requires : tie.Need-waits-from-requires
 waits-from-requires c κs =
     let c₁ = c.before.before.before.before.before.before in
     let pre· = c₁.requires in
-    omega (arith, pre·.1, pre·.0.not-longer-than-136 c₁.args.c pre·.1)
+    omega (arith, pre·.1, pre·.0.not_longer_than_136 c₁.args.c pre·.1)
 
 returns : tie.Need-returns
 returns c =

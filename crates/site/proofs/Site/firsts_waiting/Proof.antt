@@ -9,7 +9,7 @@ use lib.ListN.{length, get_or, set, length-set}
 use lib.Seq.{get_or-set_same, get_or-set_other}
 use borrow.Author.Count.{below_none}
 use borrow.Author.Tests.{eqb-true, eqb-false}
-use Rattle.plain.proofs.Tests.{by-test}
+use Rattle.plain.proofs.Tests.{by_test}
 use Rattle.store.specs.Checks.{nth}
 use Rattle.store.specs.Steps.{WaitsFrom}
 use Rattle.site.proofs.Site.firsts_waiting.Statement.{statement}
@@ -19,7 +19,7 @@ use Rattle.site.proofs.Site.firsts_waiting.Tie as tie
 one_more : (number : ℕ → ℕ) (queue lens ends : List ℕ) (c p : ℕ) → length ends ≡ 16 → c < 16
     → ((d : ℕ) → d < c → WaitsFrom number queue (136 * d) (get_or lens d 0) (get_or ends d 0)) → WaitsFrom number queue (136 * c) (get_or lens c 0) p
     → (d : ℕ) → d < c + 1 → WaitsFrom number queue (136 * d) (get_or lens d 0) (get_or (set ends c p) d 0)
-one_more number queue lens ends c p n l h w d m = by-test (eqb d c)
+one_more number queue lens ends c p n l h w d m = by_test (eqb d c)
     (λ t. let e : d ≡ c = eqb-true d c t in rw (e, get_or-set_same ends c p 0 (omega arith)) w)
     (λ f. let ne = eqb-false d c f in rw (get_or-set_other ends c d p 0 ne) (h d (omega arith)))
 
@@ -39,7 +39,7 @@ waits-from-requires c κs =
     let c₂ = c₁.before.before.before.before.before in
     let loop· = c₁.loop in
     let l : loop·.c < 16 = omega arith in
-    omega (arith, c₂.requires.not-longer-than-136 loop·.c l)
+    omega (arith, c₂.requires.not_longer_than_136 loop·.c l)
 
 loop-again : tie.Need-loop-preserved invariant-loop decreases-loop
 loop-again c =

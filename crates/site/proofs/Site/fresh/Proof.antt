@@ -9,16 +9,16 @@ use Rattle.site.proofs.Site.fresh.Tie as tie
 
 returns : tie.Need-returns
 unfolding fresh
-returns c = record { site = rw c.before.free-slot.ensures; wrong = λ n. (refl, refl, refl); right = λ a b. absurd (c.if1.true a) }
+returns c = record { site = rw c.before.slot_was_free.ensures; wrong = λ n. (refl, refl, refl); right = λ a b. absurd (c.if1.true a) }
 
 returns-2 : tie.Need-returns-2
 unfolding fresh
-returns-2 c = record { site = rw c.before.before.free-slot.ensures; wrong = λ n. (refl, refl, refl); right = λ a b. absurd (c.if2.true b) }
+returns-2 c = record { site = rw c.before.before.slot_was_free.ensures; wrong = λ n. (refl, refl, refl); right = λ a b. absurd (c.if2.true b) }
 
 returns-3 : tie.Need-returns-3
 unfolding fresh
 returns-3 c = record {
-  site = rw c.before.before.before.before.before.before.before.before.before.before.free-slot.ensures;
+  site = rw c.before.before.before.before.before.before.before.before.before.before.slot_was_free.ensures;
   wrong =
       let c₁ = c.before.before.before.before.before.before.before.before in
       let c₂ = c₁.before in

@@ -4,8 +4,8 @@ use native.Mathlib.Omega.{arith}
 use Rattle.slots.specs.declared.Slot.{Slot}
 use Rattle.site.specs.Held.{state_of}
 use Rattle.site.proofs.Shape.{shaped}
-use Rattle.store.proofs.Promise.{called-did}
-use Rattle.store.proofs.Confirming.{all-taken, not-next, unknown, confirmed-already}
+use Rattle.store.proofs.Promise.{called_did}
+use Rattle.store.proofs.Confirming.{all_taken, not_next, unknown, confirmed_already}
 use borrow.Author.Rules.{rules}
 use Rattle.site.proofs.Site.judge_confirm.Statement.{statement}
 use Rattle.site.proofs.Site.judge_confirm.Tie as tie
@@ -18,10 +18,10 @@ returns-2 c =
     let c₁ = c.before.before.before in
     let c₂ = c₁.before.before.before in
     let the-args = c₂.args in
-    let o· = c₁.door.ensures.open-to c.before.before.if1.false in
+    let o· = c₁.door.ensures.open_to c.before.before.if1.false in
     record {
       act = λ e. absurd (omega arith);
-      refuse = λ n. called-did _ _ _ _ o·.0 o·.1 (all-taken (state_of the-args.self the-args.committed.now the-args.working.now) (shaped the-args.self _ c₂.well-formed.0) o·.0 o·.1 the-args.id the-args.number (omega (
+      refuse = λ n. called_did _ _ _ _ o·.0 o·.1 (all_taken (state_of the-args.self the-args.committed.now the-args.working.now) (shaped the-args.self _ c₂.well-formed.0) o·.0 o·.1 the-args.id the-args.number (omega (
         arith,
         c.if2.true,
       )));
@@ -34,10 +34,10 @@ returns-3 c =
     let c₃ = c₂.before.before.before in
     let the-args = c₃.args in
     let good· = c₃.well-formed in
-    let o· = c₂.door.ensures.open-to c₁.if1.false in
+    let o· = c₂.door.ensures.open_to c₁.if1.false in
     record {
       act = λ e. absurd (omega arith);
-      refuse = λ n. called-did _ _ _ _ o·.0 o·.1 (not-next (state_of the-args.self the-args.committed.now the-args.working.now) (shaped the-args.self _ good·.0) o·.0 o·.1 the-args.id the-args.number (omega (
+      refuse = λ n. called_did _ _ _ _ o·.0 o·.1 (not_next (state_of the-args.self the-args.committed.now the-args.working.now) (shaped the-args.self _ good·.0) o·.0 o·.1 the-args.id the-args.number (omega (
         arith,
         c.before.before.if2.false,
         good·.0,
@@ -52,14 +52,14 @@ returns-4 c =
     let c₄ = c₃.before.before.before in
     let the-args = c₄.args in
     let good· = c₄.well-formed in
-    let o· = c₃.door.ensures.open-to c₂.if1.false in
+    let o· = c₃.door.ensures.open_to c₂.if1.false in
     record {
       act = λ e. absurd (omega arith);
-      refuse = λ n. called-did _ _ _ _ o·.0 o·.1 (unknown (state_of the-args.self the-args.committed.now the-args.working.now) (shaped the-args.self _ good·.0) o·.0 o·.1 the-args.id the-args.number (omega (
+      refuse = λ n. called_did _ _ _ _ o·.0 o·.1 (unknown (state_of the-args.self the-args.committed.now the-args.working.now) (shaped the-args.self _ good·.0) o·.0 o·.1 the-args.id the-args.number (omega (
         arith,
         c₁.if2.false,
         good·.0,
-      )) c.before.before.if3.false (c.before.slot-of.ensures.absent (omega (arith, c.if4.true))));
+      )) c.before.before.if3.false (c.before.slot_of_lem.ensures.absent (omega (arith, c.if4.true))));
     }
 
 returns-5 : tie.Need-returns-5
@@ -71,15 +71,15 @@ returns-5 c =
     let c₅ = c₄.before.before in
     let c₆ = c₅.before in
     let c₇ = c₆.before.before.before in
-    let slot-of· = c₂.slot-of in
+    let slot-of· = c₂.slot_of_lem in
     let if4· = c₁.if4 in
     let the-args = c₇.args in
     let good· = c₇.well-formed in
-    let o· = c₆.door.ensures.open-to c₅.if1.false in
+    let o· = c₆.door.ensures.open_to c₅.if1.false in
     let found· = slot-of·.ensures.found (omega (arith, if4·.false)) in
     record {
       act = λ e. absurd (omega arith);
-      refuse = λ n. called-did _ _ _ _ o·.0 o·.1 (confirmed-already (state_of the-args.self the-args.committed.now the-args.working.now) (shaped the-args.self _ good·.0) o·.0 o·.1 the-args.id the-args.number (omega (
+      refuse = λ n. called_did _ _ _ _ o·.0 o·.1 (confirmed_already (state_of the-args.self the-args.committed.now the-args.working.now) (shaped the-args.self _ good·.0) o·.0 o·.1 the-args.id the-args.number (omega (
         arith,
         c₄.if2.false,
         good·.0,
@@ -99,8 +99,8 @@ returns-6 c =
     let c₈ = c₇.before.before.before in
     let if4· = c₂.if4 in
     let slot· = c₁.slot in
-    let o· = c₇.door.ensures.open-to c₆.if1.false in
-    let found· = c₃.slot-of.ensures.found (omega (arith, if4·.false)) in
+    let o· = c₇.door.ensures.open_to c₆.if1.false in
+    let found· = c₃.slot_of_lem.ensures.found (omega (arith, if4·.false)) in
     record {
       act = λ e. record {
         ready = record {

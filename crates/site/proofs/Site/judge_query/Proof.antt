@@ -4,8 +4,8 @@ use native.Mathlib.Omega.{arith}
 use mathlib.Core.Path.{refl}
 use Rattle.site.specs.Held.{state_of}
 use Rattle.site.proofs.Shape.{shaped}
-use Rattle.store.proofs.Promise.{called-did}
-use Rattle.store.proofs.Judged.{query-empty, query-full, query-last}
+use Rattle.store.proofs.Promise.{called_did}
+use Rattle.store.proofs.Judged.{query_empty, query_full, query_last}
 use borrow.Author.Rules.{rules}
 use Rattle.site.proofs.Site.judge_query.Statement.{statement}
 use Rattle.site.proofs.Site.judge_query.Tie as tie
@@ -20,10 +20,10 @@ returns-2 c =
     let x· = state_of the-args.self the-args.committed.now the-args.working.now in
     let w· = shaped the-args.self _ c₁.well-formed.0 in
     let small : the-args.mask < 2 ^ 16 = search rules in
-    let o· = c.before.before.door.ensures.open-to c.before.if1.false in
+    let o· = c.before.before.door.ensures.open_to c.before.if1.false in
     record {
       act = λ e. absurd (omega arith);
-      refuse = λ n. called-did _ _ _ _ o·.0 o·.1 (query-empty x· w· o·.0 o·.1
+      refuse = λ n. called_did _ _ _ _ o·.0 o·.1 (query_empty x· w· o·.0 o·.1
           the-args.mask small (omega (arith, c.if2.true)));
     }
 
@@ -37,11 +37,11 @@ returns-3 c =
     let x· = state_of the-args.self the-args.committed.now the-args.working.now in
     let w· = shaped the-args.self _ c₄.well-formed.0 in
     let small : the-args.mask < 2 ^ 16 = search rules in
-    let o· = c₃.door.ensures.open-to c₂.if1.false in
+    let o· = c₃.door.ensures.open_to c₂.if1.false in
     record {
       act = λ e. absurd (omega arith);
-      refuse = λ n. called-did _ _ _ _ o·.0 o·.1 (query-full x· w· o·.0 o·.1 the-args.mask small
-          c₁.if2.false (omega (arith, c.if3.true, c.before.lowest-free.ensures)));
+      refuse = λ n. called_did _ _ _ _ o·.0 o·.1 (query_full x· w· o·.0 o·.1 the-args.mask small
+          c₁.if2.false (omega (arith, c.if3.true, c.before.lowest_free.ensures)));
     }
 
 returns-4 : tie.Need-returns-4
@@ -55,11 +55,11 @@ returns-4 c =
     let x· = state_of the-args.self the-args.committed.now the-args.working.now in
     let w· = shaped the-args.self _ c₅.well-formed.0 in
     let small : the-args.mask < 2 ^ 16 = search rules in
-    let o· = c₄.door.ensures.open-to c₃.if1.false in
+    let o· = c₄.door.ensures.open_to c₃.if1.false in
     record {
       act = λ e. absurd (omega arith);
-      refuse = λ n. called-did _ _ _ _ o·.0 o·.1 (query-last x· w· o·.0 o·.1 the-args.mask small
-          c₂.if2.false (omega (arith, c.before.before.if3.false, c₁.lowest-free.ensures)) (omega (arith, c.if4.true)));
+      refuse = λ n. called_did _ _ _ _ o·.0 o·.1 (query_last x· w· o·.0 o·.1 the-args.mask small
+          c₂.if2.false (omega (arith, c.before.before.if3.false, c₁.lowest_free.ensures)) (omega (arith, c.if4.true)));
     }
 
 returns-5 : tie.Need-returns-5
@@ -69,7 +69,7 @@ returns-5 c =
     let c₃ = c₂.before in
     let c₄ = c₃.before in
     let c₅ = c₄.before.before.before in
-    let o· = c₄.door.ensures.open-to c₃.if1.false in
+    let o· = c₄.door.ensures.open_to c₃.if1.false in
     record {
       act = λ e. record {
         right = o·.0;
@@ -78,7 +78,7 @@ returns-5 c =
         free = omega (
           arith,
           c.before.before.if3.false,
-          c₁.lowest-free.ensures,
+          c₁.lowest_free.ensures,
         );
         more = omega (arith, c.if4.false, c₅.well-formed.0);
       };

@@ -4,8 +4,8 @@ use mathlib.Core.Path.{refl}
 use borrow.Author.Rules.{rules}
 use Rattle.site.specs.Held.{state_of}
 use Rattle.site.proofs.Shape.{shaped}
-use Rattle.store.proofs.Promise.{called-did}
-use Rattle.store.proofs.Work.{work-class, work-empty, work-idle}
+use Rattle.store.proofs.Promise.{called_did}
+use Rattle.store.proofs.Work.{work_class, work_empty, work_idle}
 use Rattle.site.proofs.Site.judge_work.Statement.{statement}
 use Rattle.site.proofs.Site.judge_work.Tie as tie
 
@@ -18,10 +18,10 @@ returns-2 c =
     let the-args = c₁.args in
     let x· = state_of the-args.t1 the-args.committed.now the-args.working.now in
     let w· = shaped the-args.t1 _ c₁.well-formed.0 in
-    let o· = c.before.before.door.ensures.open-to c.before.if1.false in
+    let o· = c.before.before.door.ensures.open_to c.before.if1.false in
     record {
       act = λ e. absurd (omega arith);
-      refuse = λ n. called-did _ _ _ _ o·.0 o·.1 (work-class x· w· o·.0 o·.1 the-args.class
+      refuse = λ n. called_did _ _ _ _ o·.0 o·.1 (work_class x· w· o·.0 o·.1 the-args.class
           (omega (arith, c.if2.true)));
     }
 
@@ -33,10 +33,10 @@ returns-3 c =
     let the-args = c₃.args in
     let x· = state_of the-args.t1 the-args.committed.now the-args.working.now in
     let w· = shaped the-args.t1 _ c₃.well-formed.0 in
-    let o· = c₂.door.ensures.open-to c₁.if1.false in
+    let o· = c₂.door.ensures.open_to c₁.if1.false in
     record {
       act = λ e. absurd (omega arith);
-      refuse = λ n. called-did _ _ _ _ o·.0 o·.1 (work-empty x· w· o·.0 o·.1 the-args.class
+      refuse = λ n. called_did _ _ _ _ o·.0 o·.1 (work_empty x· w· o·.0 o·.1 the-args.class
           (omega (arith, c.before.before.if2.false)) (omega (arith, c.if3.true)));
     }
 
@@ -45,7 +45,7 @@ returns-4 c =
     let c₁ = c.before.before.before.before in
     let c₂ = c₁.before in
     let c₃ = c₂.before in
-    let o· = c₃.door.ensures.open-to c₂.if1.false in
+    let o· = c₃.door.ensures.open_to c₂.if1.false in
     record {
       act = λ e. record {
         right = o·.0;
@@ -75,10 +75,10 @@ returns-5 c =
     let the-args = c₆.args in
     let x· = state_of the-args.t1 the-args.committed.now the-args.working.now in
     let w· = shaped the-args.t1 _ c₆.well-formed.0 in
-    let o· = c₅.door.ensures.open-to c₄.if1.false in
+    let o· = c₅.door.ensures.open_to c₄.if1.false in
     record {
       act = λ e. absurd (omega arith);
-      refuse = λ n. called-did _ _ _ _ o·.0 o·.1 (work-idle x· w· o·.0 o·.1 the-args.class
+      refuse = λ n. called_did _ _ _ _ o·.0 o·.1 (work_idle x· w· o·.0 o·.1 the-args.class
           (omega (arith, c₃.if2.false)) (omega (arith, c₂.if3.false)) (omega (arith, c₁.if4.false)) c.if5.true);
     }
 
@@ -88,7 +88,7 @@ returns-6 c =
     let c₂ = c₁.before.before in
     let c₃ = c₂.before in
     let c₄ = c₃.before in
-    let o· = c₄.door.ensures.open-to c₃.if1.false in
+    let o· = c₄.door.ensures.open_to c₃.if1.false in
     record {
       act = λ e. record {
         right = o·.0;

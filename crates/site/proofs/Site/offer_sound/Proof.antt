@@ -1,20 +1,20 @@
 -- `Site::offer_sound` meets its contract: each way out is a row of the table, or the request stands in the lowest free slot. Assumes nothing.
 use Prim.Native.Nat.{ℕ, ◌<◌, ◌%◌}
 use mathlib.Core.Path.{◌≡◌, sym, ◌∙◌}
-use Rattle.usedmap.specs.Flags.{usedOf, countUsed}
-use Rattle.usedmap.proofs.Flags.{count-le, used-length}
+use Rattle.usedmap.specs.Flags.{used_of, count_used}
+use Rattle.usedmap.proofs.Flags.{count_le, used_length}
 use native.Mathlib.Omega.{arith}
 use Rattle.site.specs.Held.{store, state_of}
 use Rattle.site.proofs.Shape.{shaped}
 use borrow.Author.Tests.{not-true, not-false}
-use Rattle.store.proofs.Canonical.{has-id, has-class}
-use Rattle.store.proofs.Offered.{bad-record, id-queued, id-kept, slots-full, here, fits, offered-as}
+use Rattle.store.proofs.Canonical.{has_id, has_class}
+use Rattle.store.proofs.Offered.{bad_record, id_queued, id_kept, slots_full, here, fits, offered_as}
 use borrow.Author.Rules.{rules}
 use Rattle.site.proofs.Site.offer_sound.Statement.{statement}
 use Rattle.site.proofs.Site.offer_sound.Tie as tie
 
-not_full : (lo hi n : ℕ) → n ≡ countUsed (usedOf lo hi) → (n ≡ 128 → ⊥) → countUsed (usedOf lo hi) < 128
-not_full lo hi n e ne = omega (arith, count-le (usedOf lo hi), used-length lo hi)
+not_full : (lo hi n : ℕ) → n ≡ count_used (used_of lo hi) → (n ≡ 128 → ⊥) → count_used (used_of lo hi) < 128
+not_full lo hi n e ne = omega (arith, count_le (used_of lo hi), used_length lo hi)
 
 returns : tie.Need-returns
 returns c =
@@ -23,8 +23,8 @@ returns c =
     let the-args = c₂.args in
     let pre· = c₂.requires in
     let read-record· = c₁.read-record in
-    bad-record (state_of the-args.t1 the-args.committed.now the-args.working.now) (shaped the-args.t1 _ c₂.well-formed.0) pre·.0 pre·.1
-    the-args.bytes.now (sym read-record·.ensures.0.ok-is ∙ not-true read-record·.result.ok c.if1.true)
+    bad_record (state_of the-args.t1 the-args.committed.now the-args.working.now) (shaped the-args.t1 _ c₂.well-formed.0) pre·.0 pre·.1
+    the-args.bytes.now (sym read-record·.ensures.0.ok_is ∙ not-true read-record·.result.ok c.if1.true)
 
 returns-2 : tie.Need-returns-2
 returns-2 c =
@@ -35,9 +35,9 @@ returns-2 c =
     let pre· = c₃.requires in
     let read-record· = c₂.read-record in
     let if1· = c₁.if1 in
-    let slot-of· = c.before.slot-of in
-    id-queued (state_of the-args.t1 the-args.committed.now the-args.working.now) (shaped the-args.t1 _ c₃.well-formed.0) pre·.0 pre·.1
-    the-args.bytes.now (sym read-record·.ensures.0.ok-is ∙ not-false read-record·.result.ok if1·.false) read-record·.result.slot
+    let slot-of· = c.before.slot_of_lem in
+    id_queued (state_of the-args.t1 the-args.committed.now the-args.working.now) (shaped the-args.t1 _ c₃.well-formed.0) pre·.0 pre·.1
+    the-args.bytes.now (sym read-record·.ensures.0.ok_is ∙ not-false read-record·.result.ok if1·.false) read-record·.result.slot
     (read-record·.ensures.0.new (not-false read-record·.result.ok if1·.false)) (read-record·.ensures.0.request (not-false
     read-record·.result.ok if1·.false)) slot-of·.result (slot-of·.ensures.found (omega (arith, c.if2.true))).0
 
@@ -54,12 +54,12 @@ returns-3 c =
     let read-record· = c₄.read-record in
     let if1· = c₃.if1 in
     let a = c.before.among.ensures.yes c.if3.true in
-    id-kept (state_of the-args.t1 the-args.committed.now the-args.working.now) (shaped the-args.t1 _ c₅.well-formed.0) pre·.0 pre·.1
-    the-args.bytes.now (sym read-record·.ensures.0.ok-is ∙ not-false read-record·.result.ok if1·.false) read-record·.result.slot
+    id_kept (state_of the-args.t1 the-args.committed.now the-args.working.now) (shaped the-args.t1 _ c₅.well-formed.0) pre·.0 pre·.1
+    the-args.bytes.now (sym read-record·.ensures.0.ok_is ∙ not-false read-record·.result.ok if1·.false) read-record·.result.slot
     (read-record·.ensures.0.new (not-false read-record·.result.ok if1·.false)) (read-record·.ensures.0.request (not-false
-    read-record·.result.ok if1·.false)) (λ j l e. c₂.slot-of.ensures.absent (omega (arith, c₁.if2.false)) j l (omega (
+    read-record·.result.ok if1·.false)) (λ j l e. c₂.slot_of_lem.ensures.absent (omega (arith, c₁.if2.false)) j l (omega (
       arith,
-      has-id
+      has_id
           read-record·.result.slot (read-record·.ensures.0.new (not-false read-record·.result.ok if1·.false)).held,
       e,
     )) e) a.0 a.1
@@ -78,12 +78,12 @@ returns-4 c =
     let pre· = c₇.requires in
     let read-record· = c₆.read-record in
     let if1· = c₅.if1 in
-    slots-full (state_of the-args.t1 the-args.committed.now the-args.working.now) (shaped the-args.t1 _ c₇.well-formed.0) pre·.0 pre·.1
-    the-args.bytes.now (sym read-record·.ensures.0.ok-is ∙ not-false read-record·.result.ok if1·.false) read-record·.result.slot
+    slots_full (state_of the-args.t1 the-args.committed.now the-args.working.now) (shaped the-args.t1 _ c₇.well-formed.0) pre·.0 pre·.1
+    the-args.bytes.now (sym read-record·.ensures.0.ok_is ∙ not-false read-record·.result.ok if1·.false) read-record·.result.slot
     (read-record·.ensures.0.new (not-false read-record·.result.ok if1·.false)) (read-record·.ensures.0.request (not-false
-    read-record·.result.ok if1·.false)) (λ j l e. c₄.slot-of.ensures.absent (omega (arith, c₃.if2.false)) j l (omega (
+    read-record·.result.ok if1·.false)) (λ j l e. c₄.slot_of_lem.ensures.absent (omega (arith, c₃.if2.false)) j l (omega (
       arith,
-      has-id
+      has_id
           read-record·.result.slot (read-record·.ensures.0.new (not-false read-record·.result.ok if1·.false)).held,
       e,
     )) e)
@@ -104,32 +104,32 @@ enqueue-requires c κs =
     let pre· = c₈.requires in
     let read-record· = c₇.read-record in
     let if1· = c₆.if1 in
-    let slot-of· = c₅.slot-of in
+    let slot-of· = c₅.slot_of_lem in
     let if2· = c₄.if2 in
     let among· = c₃.among in
     let if3· = c₂.if3 in
     let used-count· = c₁.used-count in
     let if4· = c.before.if4 in
     let g = here (state_of the-args.t1 the-args.committed.now the-args.working.now) (shaped the-args.t1 _ good·.0) pre·.0 pre·.1
-    the-args.bytes.now (sym read-record·.ensures.0.ok-is ∙ not-false read-record·.result.ok if1·.false) read-record·.result.slot
+    the-args.bytes.now (sym read-record·.ensures.0.ok_is ∙ not-false read-record·.result.ok if1·.false) read-record·.result.slot
     (read-record·.ensures.0.new (not-false read-record·.result.ok if1·.false)) (read-record·.ensures.0.request (not-false
     read-record·.result.ok if1·.false)) (λ j l e. slot-of·.ensures.absent (omega (arith, if2·.false)) j l (omega (
       arith,
-      has-id
+      has_id
           read-record·.result.slot (read-record·.ensures.0.new (not-false read-record·.result.ok if1·.false)).held,
       e,
     )) e) (λ j l e. among·.ensures.no if3·.false (j, l, e)) (not_full
     the-args.t1.low the-args.t1.high used-count·.result used-count·.ensures if4·.false) in (
-      omega (arith, g.0, c.lowest-free.ensures),
-      has-class read-record·.result.slot (read-record·.ensures.0.new (not-false
+      omega (arith, g.0, c.lowest_free.ensures),
+      has_class read-record·.result.slot (read-record·.ensures.0.new (not-false
           read-record·.result.ok if1·.false)).held,
       fits (state_of the-args.t1 the-args.committed.now the-args.working.now) (shaped
-          the-args.t1 _ good·.0) pre·.0 pre·.1 the-args.bytes.now (sym read-record·.ensures.0.ok-is ∙ not-false
+          the-args.t1 _ good·.0) pre·.0 pre·.1 the-args.bytes.now (sym read-record·.ensures.0.ok_is ∙ not-false
           read-record·.result.ok if1·.false) read-record·.result.slot (read-record·.ensures.0.new (not-false read-record·.result.ok
           if1·.false)) (read-record·.ensures.0.request (not-false read-record·.result.ok if1·.false)) (λ j l e. slot-of·.ensures.absent
           (omega (arith, if2·.false)) j l (omega (
             arith,
-            has-id read-record·.result.slot (read-record·.ensures.0.new (not-false
+            has_id read-record·.result.slot (read-record·.ensures.0.new (not-false
                 read-record·.result.ok if1·.false)).held,
             e,
           )) e) (λ j l e. among·.ensures.no if3·.false (j, l, e)) (not_full the-args.t1.low the-args.t1.high used-count·.result
@@ -144,7 +144,7 @@ cast-c c =
     record {
       fits = omega (
         arith,
-        has-class read-record·.result.slot (read-record·.ensures.0.new (not-false read-record·.result.ok
+        has_class read-record·.result.slot (read-record·.ensures.0.new (not-false read-record·.result.ok
             c₁.if1.false)).held,
       );
     }
@@ -155,7 +155,7 @@ element-copy-out-place c =
     let c₁ = c₁.before in
     let c₂ = c₁.before.before in
     let read-record· = c₂.read-record in
-    has-class read-record·.result.slot (read-record·.ensures.0.new (not-false read-record·.result.ok c₁.if1.false)).held
+    has_class read-record·.result.slot (read-record·.ensures.0.new (not-false read-record·.result.ok c₁.if1.false)).held
 
 returns-5 : tie.Need-returns-5
 returns-5 c =
@@ -174,30 +174,30 @@ returns-5 c =
     let pre· = c₁₀.requires in
     let read-record· = c₉.read-record in
     let if1· = c₈.if1 in
-    let slot-of· = c₇.slot-of in
+    let slot-of· = c₇.slot_of_lem in
     let if2· = c₆.if2 in
     let among· = c₅.among in
     let if3· = c₄.if3 in
     let used-count· = c₃.used-count in
     let if4· = c₂.if4 in
-    let lowest-free· = c₁.lowest-free in
+    let lowest-free· = c₁.lowest_free in
     let enqueue· = c.before.enqueue in
     let g = here (state_of the-args.t1 the-args.committed.now the-args.working.now) (shaped the-args.t1 _ good·.0) pre·.0 pre·.1
-    the-args.bytes.now (sym read-record·.ensures.0.ok-is ∙ not-false read-record·.result.ok if1·.false) read-record·.result.slot
+    the-args.bytes.now (sym read-record·.ensures.0.ok_is ∙ not-false read-record·.result.ok if1·.false) read-record·.result.slot
     (read-record·.ensures.0.new (not-false read-record·.result.ok if1·.false)) (read-record·.ensures.0.request (not-false
     read-record·.result.ok if1·.false)) (λ j l e. slot-of·.ensures.absent (omega (arith, if2·.false)) j l (omega (
       arith,
-      has-id
+      has_id
           read-record·.result.slot (read-record·.ensures.0.new (not-false read-record·.result.ok if1·.false)).held,
       e,
     )) e) (λ j l e. among·.ensures.no if3·.false (j, l, e)) (not_full
     the-args.t1.low the-args.t1.high used-count·.result used-count·.ensures if4·.false) in
-    offered-as (state_of the-args.t1 the-args.committed.now the-args.working.now) (shaped the-args.t1 _ good·.0) pre·.0 pre·.1
-    the-args.bytes.now (sym read-record·.ensures.0.ok-is ∙ not-false read-record·.result.ok if1·.false) read-record·.result.slot
+    offered_as (state_of the-args.t1 the-args.committed.now the-args.working.now) (shaped the-args.t1 _ good·.0) pre·.0 pre·.1
+    the-args.bytes.now (sym read-record·.ensures.0.ok_is ∙ not-false read-record·.result.ok if1·.false) read-record·.result.slot
     (read-record·.ensures.0.new (not-false read-record·.result.ok if1·.false)) (read-record·.ensures.0.request (not-false
     read-record·.result.ok if1·.false)) (λ j l e. slot-of·.ensures.absent (omega (arith, if2·.false)) j l (omega (
       arith,
-      has-id
+      has_id
           read-record·.result.slot (read-record·.ensures.0.new (not-false read-record·.result.ok if1·.false)).held,
       e,
     )) e) (λ j l e. among·.ensures.no if3·.false (j, l, e)) (not_full

@@ -8,7 +8,7 @@ use lib.ListN.{get_or}
 use Rattle.site.specs.Held.{store}
 use Rattle.site.proofs.Shape.{shaped}
 use Rattle.store.specs.Meaning.{len_of}
-use Rattle.store.proofs.Places.{not-placed}
+use Rattle.store.proofs.Places.{not_placed}
 use Rattle.site.proofs.Site.place_of.Statement.{statement}
 use Rattle.site.proofs.Site.place_of.Tie as tie
 
@@ -31,13 +31,13 @@ add-x : tie.Need-overflow-add-x invariant-loop decreases-loop
 add-x c =
     let c₁ = c.before.before.before in
     let pre· = c₁.requires in
-    record { fits = omega (arith, pre·.class, c.loop-test.true, pre·.laid.not-longer-than-136 c₁.args.c pre·.class) }
+    record { fits = omega (arith, pre·.class, c.loop-test.true, pre·.laid.not_longer_than_136 c₁.args.c pre·.class) }
 
 element-copy-out-x : tie.Need-element-copy-out-x invariant-loop decreases-loop
 element-copy-out-x c =
     let c₁ = c.before.before.before in
     let pre· = c₁.requires in
-    omega (arith, pre·.class, c.loop-test.true, pre·.laid.not-longer-than-136 c₁.args.c pre·.class)
+    omega (arith, pre·.class, c.loop-test.true, pre·.laid.not_longer_than_136 c₁.args.c pre·.class)
 
 returns : tie.Need-returns invariant-loop decreases-loop
 returns c = record { within = c.before.before.loop-test.true; is = c.if1.true }
@@ -46,7 +46,7 @@ add-p : tie.Need-overflow-add-p invariant-loop decreases-loop
 add-p c =
     let c₁ = c.before.before.before.before.before in
     let pre· = c₁.requires in
-    record { fits = omega (arith, c.before.before.loop-test.true, pre·.laid.not-longer-than-136 c₁.args.c pre·.class) }
+    record { fits = omega (arith, c.before.before.loop-test.true, pre·.laid.not_longer_than_136 c₁.args.c pre·.class) }
 
 loop-less : tie.Need-loop-smaller invariant-loop decreases-loop
 loop-less c = omega (arith, c.before.before.loop-test.true)
@@ -62,7 +62,7 @@ returns-2 c =
     absurd (omega (
       arith,
       pre·.stands,
-      not-placed (store the-args.t1) (shaped the-args.t1 _ c₁.well-formed.0) pre·.laid.not-longer-than-136
+      not_placed (store the-args.t1) (shaped the-args.t1 _ c₁.well-formed.0) pre·.laid.not_longer_than_136
           the-args.c the-args.i pre·.class (λ k l. c.before.loop.invariant.1 k (omega (arith, c.loop-test.false))),
     ))
 

@@ -2,7 +2,7 @@
 use mathlib.Core.Path.{ap, ◌∙◌}
 use native.Mathlib.Omega.{arith}
 use Rattle.site.specs.Held.{store}
-use Rattle.store.specs.Steps.{withSlot, headSlot}
+use Rattle.store.specs.Steps.{with_slot, head_slot}
 use Rattle.store.proofs.Commit.{copied, uncopied}
 use borrow.Author.Rules.{rules}
 use Rattle.site.proofs.Site.put_back.Statement.{statement}
@@ -31,7 +31,7 @@ returns c =
     let copy-class· = c₁.copy-class in
     let pre· = c₂.requires in
     record {
-      is = ap (withSlot (store the-args.t1) (headSlot (store the-args.t1) the-args.c)) c.backed.ensures;
+      is = ap (with_slot (store the-args.t1) (head_slot (store the-args.t1) the-args.c)) c.backed.ensures;
       cells = copy-class·.auto.0 ∙ pre·.cells.1;
       own = copied the-args.working.now the-args.committed.now copy-class·.new.0 the-args.c pre·.class pre·.cells.1 pre·.cells.0
           copy-class·.ensures;

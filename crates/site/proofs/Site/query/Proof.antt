@@ -13,11 +13,11 @@ use Rattle.site.specs.Held.{store, state_of}
 use Rattle.site.specs.declared.Site.{Site}
 use Rattle.site.proofs.Shape.{shaped}
 use Rattle.site.proofs.Ways.{carried}
-use Rattle.store.specs.Steps.{withSlot, headSlot, withEntry}
-use Rattle.store.proofs.Promise.{called-did}
-use Rattle.store.proofs.Begins.{counted, start, begun-is}
+use Rattle.store.specs.Steps.{with_slot, head_slot, with_entry}
+use Rattle.store.proofs.Promise.{called_did}
+use Rattle.store.proofs.Begins.{counted, start, begun_is}
 use Rattle.store.proofs.Commit.{copied, uncopied}
-use Rattle.store.proofs.Turns.{Going, Put, room-here, to-fits, sum-here, may-back, put-none, put-head, skipped, turned}
+use Rattle.store.proofs.Turns.{Going, Put, room_here, to_fits, sum_here, may_back, put_none, put_head, skipped, turned}
 use Rattle.site.proofs.Site.query.Statement.{statement}
 use Rattle.site.proofs.Site.query.Tie as tie
 
@@ -47,7 +47,7 @@ loop-holds c =
     let the-args = c₃.args in
     let good· = c₃.well-formed in
     let firsts-waiting· = c.before.before.firsts-waiting in
-    let lowest-free· = c.lowest-free in
+    let lowest-free· = c.lowest_free in
     let f· = c₂.judge-query.ensures.act c₁.if1.false in
     let small· : the-args.mask < 2 ^ 16 = search rules in (
       omega arith,
@@ -114,7 +114,7 @@ cast-i c =
     record {
       fits = omega (
         arith,
-        (may-back c₆.loop.invariant.1 (omega (arith, c₅.loop-test.true)) (sym c₄.names.ensures ∙ c₃.if2.true) c₂.if3.true c₁.if4.true).request,
+        (may_back c₆.loop.invariant.1 (omega (arith, c₅.loop-test.true)) (sym c₄.names.ensures ∙ c₃.if2.true) c₂.if3.true c₁.if4.true).request,
       );
     }
 
@@ -129,7 +129,7 @@ mul-v c =
     record {
       fits = omega (
         arith,
-        (may-back c₆.loop.invariant.1 (omega (arith, c₅.loop-test.true)) (sym c₄.names.ensures ∙ c₃.if2.true) c₂.if3.true c₁.if4.true).request,
+        (may_back c₆.loop.invariant.1 (omega (arith, c₅.loop-test.true)) (sym c₄.names.ensures ∙ c₃.if2.true) c₂.if3.true c₁.if4.true).request,
       );
     }
 
@@ -141,7 +141,7 @@ element-copy-out-v c =
     let c₄ = c₃.before in
     let c₅ = c₄.before in
     let c₆ = c₅.before in
-    (may-back c₆.loop.invariant.1 (omega (arith, c₅.loop-test.true)) (sym c₄.names.ensures ∙ c₃.if2.true) c₂.if3.true c₁.if4.true
+    (may_back c₆.loop.invariant.1 (omega (arith, c₅.loop-test.true)) (sym c₄.names.ensures ∙ c₃.if2.true) c₂.if3.true c₁.if4.true
     ).request
 
 backed-requires : tie.Need-backed-requires invariant-loop decreases-loop
@@ -152,7 +152,7 @@ backed-requires c κs =
     let c₄ = c₃.before in
     let c₅ = c₄.before in
     let c₆ = c₅.before in
-    (may-back c₆.loop.invariant.1 (omega (arith, c₅.loop-test.true)) (sym c₄.names.ensures ∙ c₃.if2.true) c₂.if3.true c₁.if4.true
+    (may_back c₆.loop.invariant.1 (omega (arith, c₅.loop-test.true)) (sym c₄.names.ensures ∙ c₃.if2.true) c₂.if3.true c₁.if4.true
     ).fits
 
 mul-t44 : tie.Need-overflow-mul-t44 invariant-loop decreases-loop
@@ -166,7 +166,7 @@ mul-t44 c =
     record {
       fits = omega (
         arith,
-        (may-back c₆.loop.invariant.1 (omega (arith, c₅.loop-test.true)) (sym c₄.names.ensures ∙ c₃.if2.true) c₂.if3.true c₁.if4.true).request,
+        (may_back c₆.loop.invariant.1 (omega (arith, c₅.loop-test.true)) (sym c₄.names.ensures ∙ c₃.if2.true) c₂.if3.true c₁.if4.true).request,
       );
     }
 
@@ -178,7 +178,7 @@ element-set-from-self c =
     let c₄ = c₃.before in
     let c₅ = c₄.before in
     let c₆ = c₅.before in
-    (may-back c₆.loop.invariant.1 (omega (arith, c₅.loop-test.true)) (sym c₄.names.ensures ∙ c₃.if2.true) c₂.if3.true c₁.if4.true
+    (may_back c₆.loop.invariant.1 (omega (arith, c₅.loop-test.true)) (sym c₄.names.ensures ∙ c₃.if2.true) c₂.if3.true c₁.if4.true
     ).request
 
 cast-self : tie.Need-overflow-cast-self invariant-loop decreases-loop
@@ -206,7 +206,7 @@ cast-self-2 c =
     record {
       fits = omega (
         arith,
-        room-here c₄.loop.invariant.1 (omega (arith, c₃.loop-test.true)) (sym c₂.names.ensures ∙ c₁.if2.true),
+        room_here c₄.loop.invariant.1 (omega (arith, c₃.loop-test.true)) (sym c₂.names.ensures ∙ c₁.if2.true),
       );
     }
 
@@ -219,7 +219,7 @@ add-self-3 c =
     record {
       fits = omega (
         arith,
-        room-here c₄.loop.invariant.1 (omega (arith, c₃.loop-test.true)) (sym c₂.names.ensures ∙ c₁.if2.true),
+        room_here c₄.loop.invariant.1 (omega (arith, c₃.loop-test.true)) (sym c₂.names.ensures ∙ c₁.if2.true),
       );
     }
 
@@ -231,7 +231,7 @@ element-write-self c =
     let c₄ = c₃.before in
     omega (
       arith,
-      room-here c₄.loop.invariant.1 (omega (arith, c₃.loop-test.true)) (sym c₂.names.ensures ∙ c₁.if2.true),
+      room_here c₄.loop.invariant.1 (omega (arith, c₃.loop-test.true)) (sym c₂.names.ensures ∙ c₁.if2.true),
     )
 
 add-self-4 : tie.Need-overflow-add-self-4 invariant-loop decreases-loop
@@ -243,7 +243,7 @@ add-self-4 c =
     record {
       fits = omega (
         arith,
-        room-here c₄.loop.invariant.1 (omega (arith, c₃.loop-test.true)) (sym c₂.names.ensures ∙ c₁.if2.true),
+        room_here c₄.loop.invariant.1 (omega (arith, c₃.loop-test.true)) (sym c₂.names.ensures ∙ c₁.if2.true),
       );
     }
 
@@ -259,7 +259,7 @@ cast-move-forward c =
     let c₂ = c₁.before in
     let c₃ = c₂.before in
     let c₄ = c₃.before in
-    record { fits = omega (arith, room-here c₄.loop.invariant.1 (omega (arith, c₃.loop-test.true)) (sym c₂.names.ensures ∙ c₁.if2.true)) }
+    record { fits = omega (arith, room_here c₄.loop.invariant.1 (omega (arith, c₃.loop-test.true)) (sym c₂.names.ensures ∙ c₁.if2.true)) }
 
 move-forward-requires : tie.Need-move-forward-requires invariant-loop decreases-loop
 move-forward-requires c κs =
@@ -270,7 +270,7 @@ move-forward-requires c κs =
     let loop· = c₄.loop in
     let l· : loop·.c < 16 = omega (arith, c₃.loop-test.true) in
     let here· = sym c₂.names.ensures ∙ c₁.if2.true in
-    (to-fits loop·.invariant.1 l· here·, room-here loop·.invariant.1 l· here·, l·)
+    (to_fits loop·.invariant.1 l· here·, room_here loop·.invariant.1 l· here·, l·)
 
 mul-q : tie.Need-overflow-mul-q invariant-loop decreases-loop
 mul-q c =
@@ -307,7 +307,7 @@ add-self-5 c =
     let c₂ = c₁.before in
     let c₃ = c₂.before in
     let c₄ = c₃.before in
-    record { fits = omega (arith, sum-here c₄.loop.invariant.1 (omega (arith, c₃.loop-test.true)) (sym c₂.names.ensures ∙ c₁.if2.true)) }
+    record { fits = omega (arith, sum_here c₄.loop.invariant.1 (omega (arith, c₃.loop-test.true)) (sym c₂.names.ensures ∙ c₁.if2.true)) }
 
 mul-self-2 : tie.Need-overflow-mul-self-2 invariant-loop decreases-loop
 mul-self-2 c =
@@ -334,7 +334,7 @@ loop-again c =
     let names· = c.before.names in
     let l· : loop·.c < 16 = omega (arith, loop-test·.true) in
     let Next· : Site → List ℕ → Type 0 =
-    λ s v. Going (counted (store the-args.t1)) (store s) the-args.committed.now the-args.working.now v the-args.mask c₂.lowest-free.result
+    λ s v. Going (counted (store the-args.t1)) (store s) the-args.committed.now the-args.working.now v the-args.mask c₂.lowest_free.result
     the-args.t1.confirmations (loop·.c + 1) c₃.firsts-waiting.result in (
       omega (arith, loop-test·.true),
       ⊎_elim
@@ -343,8 +343,8 @@ loop-again c =
           let Put· : Site → List ℕ → Type 0 = λ s v. Put loop·.invariant.1 l· here· (store s) v in
           let put· : Put· z.3.self z.3.working =
           ⊎_elim
-          (λ y. carried Put· y.10 y.9 (put-head loop·.invariant.1 l· here· y.0.taken y.1.taken _ _ (record {
-            is = ap (withSlot (store loop·.self) (headSlot (store loop·.self) loop·.c)) y.8.ensures;
+          (λ y. carried Put· y.10 y.9 (put_head loop·.invariant.1 l· here· y.0.taken y.1.taken _ _ (record {
+            is = ap (with_slot (store loop·.self) (head_slot (store loop·.self) loop·.c)) y.8.ensures;
             cells = y.3.kept.0 ∙ loop·.invariant.1.cells;
             own = copied loop·.working the-args.committed.now y.3.last.0 loop·.c l· loop·.invariant.1.cells loop·.invariant.1.right
                 y.3.ensures;
@@ -352,8 +352,8 @@ loop-again c =
                 y.3.ensures;
           })))
           (⊎_elim
-          (λ y. carried Put· y.3 y.2 (put-none loop·.invariant.1 l· here· (inr y.1.left)))
-          (λ y. carried Put· y.2 y.1 (put-none loop·.invariant.1 l· here· (inl y.0.left))))
+          (λ y. carried Put· y.3 y.2 (put_none loop·.invariant.1 l· here· (inr y.1.left)))
+          (λ y. carried Put· y.2 y.1 (put_none loop·.invariant.1 l· here· (inl y.0.left))))
           z.3.came in
           carried Next· z.9 z.8 (turned loop·.invariant.1 l· here· (store z.3.self) z.3.working put· _ z.7.result
           (record {
@@ -365,7 +365,7 @@ loop-again c =
             counts =
                 (refl, refl, refl);
             kept = refl;
-            sums = ap (λ (r : List ℕ). set z.3.self.sums loop·.c (withEntry (get_or r loop·.c 0))) (sym put·.settled.sums);
+            sums = ap (λ (r : List ℕ). set z.3.self.sums loop·.c (with_entry (get_or r loop·.c 0))) (sym put·.settled.sums);
           })
           z.7.ensures.0 (z.7.ensures.1 ∙ put·.settled.counts.0 ∙ loop·.invariant.1.upto.counts.0) z.7.ok.1.1.0.1))
           (λ z. carried Next· z.2 z.1 (skipped loop·.invariant.1 (sym names·.ensures ∙ z.0.left)))
@@ -391,11 +391,11 @@ returns-2 c =
     let c₃ = c₂.before in
     let c₄ = c₃.before.before.before.before in
     let the-args = c₄.args in
-    let lowest-free· = c.before.before.lowest-free in
+    let lowest-free· = c.before.before.lowest_free in
     let loop· = c.before.loop in
     let f· = c₃.judge-query.ensures.act c₂.if1.false in
     let small· : the-args.mask < 2 ^ 16 = search rules in
-    called-did _ _ _ _ f·.right f·.sound (begun-is (state_of the-args.t1 the-args.committed.now the-args.working.now) (shaped the-args.t1 _
+    called_did _ _ _ _ f·.right f·.sound (begun_is (state_of the-args.t1 the-args.committed.now the-args.working.now) (shaped the-args.t1 _
     c₄.well-formed.0) f·.right f·.sound
     the-args.mask small· f·.some f·.free f·.more c₁.firsts-waiting.result lowest-free·.result lowest-free·.ensures (store loop·.self)
     loop·.working loop·.c (omega arith) loop·.invariant.0 loop·.invariant.1)

@@ -33,7 +33,7 @@ add-p c =
     let c₁ = c.before.before.before.before.before in
     let pre· = c₁.requires in
     let loop· = c.before.loop in
-    record { fits = omega (arith, pre·.0.not-longer-than-136 _ pre·.2, loop·.invariant.0, loop·.invariant.1) }
+    record { fits = omega (arith, pre·.0.not_longer_than_136 _ pre·.2, loop·.invariant.0, loop·.invariant.1) }
 
 mul-b : tie.Need-overflow-mul-b invariant-loop decreases-loop
 mul-b c =
@@ -44,13 +44,13 @@ add-b : tie.Need-overflow-add-b invariant-loop decreases-loop
 add-b c =
     let c₁ = c.before.before.before.before.before in
     let pre· = c₁.requires in
-    record { fits = omega (arith, pre·.2, pre·.0.not-longer-than-136 _ pre·.2, c.before.loop.invariant.1) }
+    record { fits = omega (arith, pre·.2, pre·.0.not_longer_than_136 _ pre·.2, c.before.loop.invariant.1) }
 
 element-copy-out-b : tie.Need-element-copy-out-b invariant-loop decreases-loop
 element-copy-out-b c =
     let c₁ = c.before.before.before.before.before in
     let pre· = c₁.requires in
-    omega (arith, pre·.2, pre·.0.not-longer-than-136 _ pre·.2, c.before.loop.invariant.1)
+    omega (arith, pre·.2, pre·.0.not_longer_than_136 _ pre·.2, c.before.loop.invariant.1)
 
 loop-less : tie.Need-loop-smaller invariant-loop decreases-loop
 loop-less c = omega (arith, c.before.before.before.loop-test.true)
@@ -66,7 +66,7 @@ add-from c =
     let c₁ = c.before.before.before in
     let c₂ = c₁.before.before.before.before in
     let pre· = c₂.requires in
-    record { fits = omega (arith, pre·.0.not-longer-than-136 _ pre·.2, c.before.before.loop-test.true, c₁.loop.invariant.1) }
+    record { fits = omega (arith, pre·.0.not_longer_than_136 _ pre·.2, c.before.before.loop-test.true, c₁.loop.invariant.1) }
 
 loop-less-2 : tie.Need-loop-smaller-2 invariant-loop decreases-loop
 loop-less-2 c = omega (arith, c.before.before.loop-test.true)
@@ -97,14 +97,14 @@ add-if4 c =
     let c₁ = c.before.before.before.before.before.before in
     let pre· = c₁.requires in
     let loop· = c.before.before.loop in
-    record { fits = omega (arith, pre·.2, pre·.0.not-longer-than-136 _ pre·.2, loop·.invariant.0, loop·.invariant.1) }
+    record { fits = omega (arith, pre·.2, pre·.0.not_longer_than_136 _ pre·.2, loop·.invariant.0, loop·.invariant.1) }
 
 element-copy-out-if4 : tie.Need-element-copy-out-if4 invariant-loop decreases-loop
 element-copy-out-if4 c =
     let c₁ = c.before.before.before.before.before.before in
     let pre· = c₁.requires in
     let loop· = c.before.before.loop in
-    omega (arith, pre·.2, pre·.0.not-longer-than-136 _ pre·.2, loop·.invariant.0, loop·.invariant.1, c.if3.false)
+    omega (arith, pre·.2, pre·.0.not_longer_than_136 _ pre·.2, loop·.invariant.0, loop·.invariant.1, c.if3.false)
 
 returns-2 : tie.Need-returns-2 invariant-loop decreases-loop
 returns-2 c = (refl, (λ z. absurd (omega arith)))

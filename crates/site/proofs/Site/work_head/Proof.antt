@@ -10,17 +10,17 @@ use Prim.Native.Nat.{ℕ, ◌<◌}
 use borrow.Author.Rules.{rules}
 use borrow.Author.Tests.{ltb-true, ltb-false}
 use Rattle.plain.specs.Site.{work}
-use Rattle.plain.proofs.Tests.{by-test}
+use Rattle.plain.proofs.Tests.{by_test}
 use Rattle.site.specs.Held.{store, state_of, answer_of}
 use Rattle.site.specs.declared.Site.{Site}
 use Rattle.site.specs.declared.Answer.{Answer}
 use Rattle.site.proofs.Shape.{shaped}
 use Rattle.store.specs.Calls.{State, Did}
 use Rattle.store.specs.Meaning.{cells_of}
-use Rattle.store.specs.Steps.{headSlot}
-use Rattle.store.proofs.Cells.{lent-long, lent_is}
-use Rattle.store.proofs.Read.{entry-small, read_as}
-use Rattle.store.proofs.Work.{head-held, marked, work-left, stepped-as, executed-as, may-commit, committed-as}
+use Rattle.store.specs.Steps.{head_slot}
+use Rattle.store.proofs.Cells.{lent_long, lent_is}
+use Rattle.store.proofs.Read.{entry_small, read_as}
+use Rattle.store.proofs.Work.{head_held, marked, work_left, stepped_as, executed_as, may_commit, committed_as}
 use Rattle.site.proofs.Site.work_head.Statement.{statement}
 use Rattle.site.proofs.Site.work_head.Tie as tie
 
@@ -47,7 +47,7 @@ cast-q c =
     let c₁ = c.before.before.before.before in
     let the-args = c₁.args in
     let pre· = c₁.requires in
-    let h = entry-small (store the-args.t1) (shaped the-args.t1 _ c₁.well-formed.0) pre·.sound.laid the-args.c pre·.class pre·.some in
+    let h = entry_small (store the-args.t1) (shaped the-args.t1 _ c₁.well-formed.0) pre·.sound.laid the-args.c pre·.class pre·.some in
     record { fits = omega arith }
 
 mul-q : tie.Need-overflow-mul-q
@@ -55,7 +55,7 @@ mul-q c =
     let c₁ = c.before.before.before.before in
     let the-args = c₁.args in
     let pre· = c₁.requires in
-    let h = entry-small (store the-args.t1) (shaped the-args.t1 _ c₁.well-formed.0) pre·.sound.laid the-args.c pre·.class pre·.some in
+    let h = entry_small (store the-args.t1) (shaped the-args.t1 _ c₁.well-formed.0) pre·.sound.laid the-args.c pre·.class pre·.some in
     record { fits = omega arith }
 
 element-copy-out-q : tie.Need-element-copy-out-q
@@ -63,7 +63,7 @@ element-copy-out-q c =
     let c₁ = c.before.before.before.before in
     let the-args = c₁.args in
     let pre· = c₁.requires in
-    let h = entry-small (store the-args.t1) (shaped the-args.t1 _ c₁.well-formed.0) pre·.sound.laid the-args.c pre·.class pre·.some in
+    let h = entry_small (store the-args.t1) (shaped the-args.t1 _ c₁.well-formed.0) pre·.sound.laid the-args.c pre·.class pre·.some in
     omega (arith, c.if1.true)
 
 cast-without : tie.Need-overflow-cast-without
@@ -82,7 +82,7 @@ cast-t20 c =
     let c₁ = c.before.before.before.before.before.before in
     let the-args = c₁.args in
     let pre· = c₁.requires in
-    let h = entry-small (store the-args.t1) (shaped the-args.t1 _ c₁.well-formed.0) pre·.sound.laid the-args.c pre·.class pre·.some in
+    let h = entry_small (store the-args.t1) (shaped the-args.t1 _ c₁.well-formed.0) pre·.sound.laid the-args.c pre·.class pre·.some in
     record { fits = omega arith }
 
 mul-t21 : tie.Need-overflow-mul-t21
@@ -90,7 +90,7 @@ mul-t21 c =
     let c₁ = c.before.before.before.before.before.before in
     let the-args = c₁.args in
     let pre· = c₁.requires in
-    let h = entry-small (store the-args.t1) (shaped the-args.t1 _ c₁.well-formed.0) pre·.sound.laid the-args.c pre·.class pre·.some in
+    let h = entry_small (store the-args.t1) (shaped the-args.t1 _ c₁.well-formed.0) pre·.sound.laid the-args.c pre·.class pre·.some in
     record { fits = omega arith }
 
 element-set-from-self : tie.Need-element-set-from-self
@@ -98,7 +98,7 @@ element-set-from-self c =
     let c₁ = c.before.before.before.before.before.before in
     let the-args = c₁.args in
     let pre· = c₁.requires in
-    let h = entry-small (store the-args.t1) (shaped the-args.t1 _ c₁.well-formed.0) pre·.sound.laid the-args.c pre·.class pre·.some in
+    let h = entry_small (store the-args.t1) (shaped the-args.t1 _ c₁.well-formed.0) pre·.sound.laid the-args.c pre·.class pre·.some in
     omega (arith, c.before.before.if1.true)
 
 element-copy-out-len : tie.Need-element-copy-out-len
@@ -111,13 +111,13 @@ cast-take-head : tie.Need-overflow-cast-take-head
 cast-take-head c =
     let c₁ = c.before.before.before.before.before.before.before.before in
     let pre· = c₁.requires in
-    record { fits = omega (arith, pre·.sound.laid.not-longer-than-136 c₁.args.c pre·.class) }
+    record { fits = omega (arith, pre·.sound.laid.not_longer_than_136 c₁.args.c pre·.class) }
 
 take-head-requires : tie.Need-take-head-requires
 take-head-requires c κs =
     let c₁ = c.before.before.before.before.before.before.before.before in
     let pre· = c₁.requires in
-    (pre·.some, pre·.sound.laid.not-longer-than-136 c₁.args.c pre·.class, pre·.class)
+    (pre·.some, pre·.sound.laid.not_longer_than_136 c₁.args.c pre·.class, pre·.class)
 
 sub_self : tie.Need-overflow-sub-self
 sub_self c =
@@ -160,7 +160,7 @@ add-t30 c =
     let c₁ = c.before.before.before.before.before.before.before.before.before.before.before in
     let the-args = c₁.args in
     let pre· = c₁.requires in
-    let h = entry-small (store the-args.t1) (shaped the-args.t1 _ c₁.well-formed.0) pre·.sound.laid the-args.c pre·.class pre·.some in
+    let h = entry_small (store the-args.t1) (shaped the-args.t1 _ c₁.well-formed.0) pre·.sound.laid the-args.c pre·.class pre·.some in
     record { fits = omega arith }
 
 returns : tie.Need-returns
@@ -223,11 +223,11 @@ step-requires c κs =
     let pre· = c₂.requires in
     let x· = state_of the-args.t1 the-args.committed.now the-args.working.now in
     let w· = shaped the-args.t1 _ c₂.well-formed.0 in
-    let slot· : headSlot (store the-args.t1) the-args.c < 128 = omega (arith, c₁.if1.false) in (
-      lent-long _ the-args.c pre·.right.0 pre·.class,
-      lent-long _ the-args.c pre·.right.1 pre·.class,
-      head-held x· w· pre·.right pre·.sound the-args.c pre·.class pre·.some slot·,
-      work-left x· w· pre·.right pre·.sound the-args.c pre·.class pre·.some slot· (pre·.unfinished slot·),
+    let slot· : head_slot (store the-args.t1) the-args.c < 128 = omega (arith, c₁.if1.false) in (
+      lent_long _ the-args.c pre·.right.0 pre·.class,
+      lent_long _ the-args.c pre·.right.1 pre·.class,
+      head_held x· w· pre·.right pre·.sound the-args.c pre·.class pre·.some slot·,
+      work_left x· w· pre·.right pre·.sound the-args.c pre·.class pre·.some slot· (pre·.unfinished slot·),
       rw (lent_is, lent_is) (marked x· w· pre·.right pre·.sound the-args.c pre·.class pre·.some slot·),
     )
 
@@ -279,8 +279,8 @@ commit-requires c κs =
     let one-less2· = c₂.one-less2 in
     let x· = state_of the-args.t1 the-args.committed.now the-args.working.now in
     let w· = shaped the-args.t1 _ good·.0 in
-    let slot· : headSlot (store the-args.t1) the-args.c < 128 = omega (arith, c₄.if1.false) in
-    may-commit x· w· pre·.right pre·.sound the-args.c pre·.class pre·.some slot· (work-left x· w· pre·.right pre·.sound the-args.c
+    let slot· : head_slot (store the-args.t1) the-args.c < 128 = omega (arith, c₄.if1.false) in
+    may_commit x· w· pre·.right pre·.sound the-args.c pre·.class pre·.some slot· (work_left x· w· pre·.right pre·.sound the-args.c
     pre·.class pre·.some slot· (pre·.unfinished slot·)) step·.result _ step·.auto.1.1.0 step·.ensures one-less2·.result one-less2·.ensures
     (c₁.commits.ensures.yes c.before.before.if2.true).1 (omega (arith, good·.0))
 
@@ -301,24 +301,24 @@ returns-2 c =
     let one-less2· = c₁.one-less2 in
     let x· = state_of the-args.t1 the-args.committed.now the-args.working.now in
     let w· = shaped the-args.t1 _ c₄.well-formed.0 in
-    let slot· : headSlot (store the-args.t1) the-args.c < 128 = omega (arith, c₃.if1.false) in
-    let left· = work-left x· w· pre·.right pre·.sound the-args.c pre·.class pre·.some slot· (pre·.unfinished slot·) in
+    let slot· : head_slot (store the-args.t1) the-args.c < 128 = omega (arith, c₃.if1.false) in
+    let left· = work_left x· w· pre·.right pre·.sound the-args.c pre·.class pre·.some slot· (pre·.unfinished slot·) in
     ⊎_elim
     (λ y.
     let m· = commits·.ensures.yes y.0.taken in
-    met x· the-args.c _ y.7 y.6 (worked·.ensures.committed m·.0 m·.1) (committed-as x· w· pre·.right pre·.sound the-args.c
+    met x· the-args.c _ y.7 y.6 (worked·.ensures.committed m·.0 m·.1) (committed_as x· w· pre·.right pre·.sound the-args.c
     pre·.class pre·.some slot· left· step·.result _ step·.auto.1.1.0 step·.ensures one-less2·.result one-less2·.ensures m·.0 m·.1 _ _ y.3.ensures))
-    (λ y. by-test (ltb step·.result.done step·.result.count)
+    (λ y. by_test (ltb step·.result.done step·.result.count)
     (λ t.
     let l· = ltb-true step·.result.done step·.result.count t in
-    met x· the-args.c _ y.2 y.1 (worked·.ensures.left l·) (stepped-as x· w· pre·.right pre·.sound the-args.c pre·.class pre·.some
+    met x· the-args.c _ y.2 y.1 (worked·.ensures.left l·) (stepped_as x· w· pre·.right pre·.sound the-args.c pre·.class pre·.some
     slot· left· step·.result _ step·.auto.1.1.0 step·.ensures one-less2·.result one-less2·.ensures l·))
     (λ f.
     let g· = ltb-false step·.result.done step·.result.count f in
-    let n· : step·.result.number ≡ 0 = by-test (ltb 0 step·.result.number)
+    let n· : step·.result.number ≡ 0 = by_test (ltb 0 step·.result.number)
     (λ t. absurd (commits·.ensures.no y.0.left (g·, ltb-true 0 step·.result.number t)))
     (λ u. omega (arith, ltb-false 0 step·.result.number u)) in
-    met x· the-args.c _ y.2 y.1 (worked·.ensures.executed g· n·) (executed-as x· w· pre·.right pre·.sound the-args.c pre·.class
+    met x· the-args.c _ y.2 y.1 (worked·.ensures.executed g· n·) (executed_as x· w· pre·.right pre·.sound the-args.c pre·.class
     pre·.some slot· left· step·.result _ step·.auto.1.1.0 step·.ensures one-less2·.result one-less2·.ensures g· n·)))
     c.before.if2.branch
 

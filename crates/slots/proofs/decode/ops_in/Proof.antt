@@ -6,22 +6,22 @@ use lib.ListN.{length, get_or, length-set}
 use lib.Seq.{ext_get_or}
 use borrow.Author.Rules.{rules}
 use borrow.Author.Count.{below_none}
-use Rattle.plain.specs.Sizes.{mostOps}
-use Rattle.cells.specs.Ops.{noOp}
+use Rattle.plain.specs.Sizes.{most_ops}
+use Rattle.cells.specs.Ops.{no_op}
 use Rattle.slots.specs.declared.Slot.{Slot}
-use Rattle.slots.specs.Rules.{opIn}
-use Rattle.slots.proofs.Reading.{ops-long, op-in, stored}
+use Rattle.slots.specs.Rules.{op_within}
+use Rattle.slots.proofs.Reading.{ops_long, op_in_lem, stored}
 use Rattle.slots.proofs.decode.ops_in.Statement.{statement}
 use Rattle.slots.proofs.decode.ops_in.Tie as tie
 
 abbrev invariant-loop : tie.invariant-loop
-invariant-loop bytes ops₀ k₀ ops k = (k ≤ mostOps) × (length ops ≡ mostOps) × ((j : ℕ) → j < k → get_or ops j noOp ≡ opIn bytes j)
+invariant-loop bytes ops₀ k₀ ops k = (k ≤ most_ops) × (length ops ≡ most_ops) × ((j : ℕ) → j < k → get_or ops j no_op ≡ op_within bytes j)
 
 abbrev decreases-loop : tie.decreases-loop
-decreases-loop bytes ops₀ k₀ ops k = mostOps - k
+decreases-loop bytes ops₀ k₀ ops k = most_ops - k
 
 loop-holds : tie.Need-loop-init invariant-loop decreases-loop
-loop-holds c = (search rules, ap (λ (v : Slot). length v.ops) c.before.free-slot.ensures, below_none _)
+loop-holds c = (search rules, ap (λ (v : Slot). length v.ops) c.before.slot_was_free.ensures, below_none _)
 
 loop-again : tie.Need-loop-preserved invariant-loop decreases-loop
 loop-again c =
@@ -36,7 +36,7 @@ returns : tie.Need-returns invariant-loop decreases-loop
 returns c =
     let inv = c.before.loop.invariant in
     let b = c.before.before.before.before.before.args.bytes.now in
-    ext_get_or noOp _ _ (inv.1 ∙ sym (ops-long b 0 mostOps)) (λ j l. inv.2 j (omega arith) ∙ sym (op-in b j (omega arith)))
+    ext_get_or no_op _ _ (inv.1 ∙ sym (ops_long b 0 most_ops)) (λ j l. inv.2 j (omega arith) ∙ sym (op_in_lem b j (omega arith)))
 
 pub ops-in-spec : {M : Type 1} → statement M
 ops-in-spec =

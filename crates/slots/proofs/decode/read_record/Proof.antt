@@ -5,14 +5,14 @@ use borrow.Author.Tests.{not-true, not-false}
 use borrow.Author.Rules.{rules}
 use Rattle.plain.proofs.Tests.{no}
 use Rattle.plain.proofs.Deciding.{holds}
-use Rattle.slots.proofs.Reading.{not-record, decides-record, refuted, no_record, a-record}
+use Rattle.slots.proofs.Reading.{not_record, decides_record, refuted, no_record, a_record}
 use Rattle.slots.proofs.decode.read_record.Statement.{statement}
 use Rattle.slots.proofs.decode.read_record.Tie as tie
 
 returns : tie.Need-returns
 returns c =
     let b = c.before.before.before.args.bytes.now in
-    (no_record b _ (not-record b c.if1.true), λ e. c.before.free-slot.ensures)
+    (no_record b _ (not_record b c.if1.true), λ e. c.before.slot_was_free.ensures)
 
 returns-2 : tie.Need-returns-2
 returns-2 c =
@@ -20,7 +20,7 @@ returns-2 c =
     let bytes = c.before.before.before.before.shared-slice-known.given in
     let refused = c.before.spare-zero.ensures.no (not-true _ c.if2.true) in (
       no_record b _ (refuted b (λ i l. omega (arith, bytes i)) (omega arith) (λ z h. refused z)),
-      λ e. c.before.before.before.free-slot.ensures,
+      λ e. c.before.before.before.slot_was_free.ensures,
     )
 
 returns-3 : tie.Need-returns-3
@@ -29,7 +29,7 @@ returns-3 c =
     let bytes = c.before.before.before.before.before.before.before.shared-slice-known.given in
     let d = rw c.before.before.slot-in.ensures at c.before.holds.ensures in (
       no_record b _ (refuted b (λ i l. omega (arith, bytes i)) (omega arith) (λ z h. d.no (not-true _ c.if3.true) h)),
-      λ e. c.before.before.before.before.before.before.free-slot.ensures,
+      λ e. c.before.before.before.before.before.before.slot_was_free.ensures,
     )
 
 returns-4 : tie.Need-returns-4
@@ -39,8 +39,8 @@ returns-4 c =
     let slot-in = c.before.before.slot-in in
     let h = (rw slot-in.ensures at c.before.holds.ensures).yes (not-false _ c.if3.false) in
     let z = c.before.before.before.before.spare-zero.ensures.yes (not-false _ c.before.before.before.if2.false) in
-    let d = decides-record b (λ i l. omega (arith, bytes i)) (omega arith) in
-    (rw slot-in.ensures (a-record b (holds d (z, h)) h), λ e. no _ refl e)
+    let d = decides_record b (λ i l. omega (arith, bytes i)) (omega arith) in
+    (rw slot-in.ensures (a_record b (holds d (z, h)) h), λ e. no _ refl e)
 
 pub read-record-spec : {M : Type 1} → statement M
 read-record-spec =

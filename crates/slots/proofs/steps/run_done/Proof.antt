@@ -6,16 +6,16 @@ use mathlib.Core.Path.{◌≡◌, sym, ap, ◌∙◌}
 use lib.ListN.{length, take}
 use borrow.Author.Rules.{rules}
 use borrow.Author.Tests.{ne_eqb}
-use Rattle.plain.specs.Sizes.{cellCount}
+use Rattle.plain.specs.Sizes.{cell_count}
 use Rattle.plain.specs.Ops as P
-use Rattle.slots.specs.Meaning.{requestOf}
+use Rattle.slots.specs.Meaning.{request_of}
 use Rattle.slots.proofs.Shape.{seven}
-use Rattle.slots.proofs.Running.{one_more, stays-declined}
+use Rattle.slots.proofs.Running.{one_more, stays_declined}
 use Rattle.slots.proofs.steps.run_done.Statement.{statement}
 use Rattle.slots.proofs.steps.run_done.Tie as tie
 
 abbrev invariant-loop : tie.invariant-loop
-invariant-loop v from work₀ k₀ work k = (k ≤ v.done) × (P.carryAll (take k (requestOf v).ops) from ≡ P.carried work) × (length work ≡ cellCount)
+invariant-loop v from work₀ k₀ work k = (k ≤ v.done) × (P.carry_all (take k (request_of v).ops) from ≡ P.carried work) × (length work ≡ cell_count)
 
 abbrev decreases-loop : tie.decreases-loop
 decreases-loop v from work₀ k₀ work k = v.done - k
@@ -42,8 +42,8 @@ returns c =
     let base = start.args.from.now in
     let good = seven v _ start.well-formed.0 in
     let more = one_more v good start.requires.1 base loop.k (omega arith) loop.work loop.invariant.1 in
-    let n = stays-declined v good start.requires.1 base loop.k (omega arith) v.done m (omega arith) (more ∙ carry.ensures.0 ∙ rw r) in
-    record { mark-is = rw n; cells = rw n c.before.copy-cells2.ensures }
+    let n = stays_declined v good start.requires.1 base loop.k (omega arith) v.done m (omega arith) (more ∙ carry.ensures.0 ∙ rw r) in
+    record { mark_is = rw n; cells = rw n c.before.copy-cells2.ensures }
 
 loop-again : tie.Need-loop-preserved invariant-loop decreases-loop
 loop-again c =
@@ -61,7 +61,7 @@ returns-2 c =
     let loop = c.before.before.loop in
     let e : loop.k ≡ c.before.before.before.before.before.before.before.args.v.done = omega arith in
     let n = rw e at loop.invariant.1 in
-    record { mark-is = rw n; cells = rw n }
+    record { mark_is = rw n; cells = rw n }
 
 pub run-done-spec : {M : Type 1} → statement M
 run-done-spec =

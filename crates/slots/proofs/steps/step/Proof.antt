@@ -4,7 +4,7 @@ use mathlib.Core.Logic.{inl, inr}
 use borrow.Author.Tests.{ne_eqb}
 use borrow.Author.Rules.{rules}
 use Rattle.plain.specs.Ops as P
-use Rattle.slots.proofs.Running.{step-as}
+use Rattle.slots.proofs.Running.{step_as}
 use Rattle.slots.proofs.steps.step.Statement.{statement}
 use Rattle.slots.proofs.steps.step.Tie as tie
 
@@ -14,7 +14,7 @@ returns c =
     let v = start.args.v in
     elim start.requires.4 [
       | inl z ↦ absurd (c.if1.true z)
-      | inr z ↦ step-as v _ _ _ _ (P.declined v.mark) (rw (ne_eqb v.mark 0 c.if1.true)) refl z
+      | inr z ↦ step_as v _ _ _ _ (P.declined v.mark) (rw (ne_eqb v.mark 0 c.if1.true)) refl z
     ]
 
 carry-at-requires : tie.Need-carry-at-requires
@@ -30,7 +30,7 @@ returns-2 c =
     let m = carry.result in
     let if1 = c.before.before.before.before.before.before.before.before.before.if1 in
     let r = ne_eqb m 0 c.before.before.before.before.if2.true in
-    step-as v _ _ _ m (P.declined m) (rw if1.false (carry.ensures.0 ∙ rw r)) refl c.before.before.copy-cells.ensures
+    step_as v _ _ _ m (P.declined m) (rw if1.false (carry.ensures.0 ∙ rw r)) refl c.before.before.copy-cells.ensures
 
 returns-3 : tie.Need-returns-3
 returns-3 c =
@@ -38,7 +38,7 @@ returns-3 c =
     let v = c.before.before.before.before.before.before.before.before.before.args.v in
     let if1 = c.before.before.before.before.before.if1 in
     let r = c.if2.false in
-    step-as v _ _ _ carry.result (P.carried _) (rw if1.false (carry.ensures.0 ∙ rw r)) r refl
+    step_as v _ _ _ carry.result (P.carried _) (rw if1.false (carry.ensures.0 ∙ rw r)) r refl
 
 pub step_spec : {M : Type 1} → statement M
 step_spec =

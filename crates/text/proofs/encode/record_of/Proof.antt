@@ -6,25 +6,25 @@ use mathlib.Core.List.{List, ◌++◌, append-nil}
 use lib.ListN.{take, length}
 use lib.Seq.{take_all}
 use borrow.Author.Rules.{rules}
-use Rattle.cells.specs.Ops.{noOp}
+use Rattle.cells.specs.Ops.{no_op}
 use Rattle.slots.specs.declared.Slot.{Slot}
 use Rattle.slots.proofs.Shape.{seven}
 use Rattle.text.specs.Text.{joined}
-use Rattle.text.specs.Pieces.{headBytes, opBytes, recordBytes}
-use Rattle.text.proofs.Forms.{next-put}
+use Rattle.text.specs.Pieces.{bytes_of_head, bytes_of_op, bytes_of_record}
+use Rattle.text.proofs.Forms.{next_put}
 use Rattle.text.proofs.encode.record_of.Statement.{statement}
 use Rattle.text.proofs.encode.record_of.Tie as tie
 
 -- all bytes are the record
 whole : (v : Slot) (b : List ℕ) (at k : ℕ) → length v.ops ≡ 7 → length b ≡ 64 → 7 ≤ k → at ≡ 8 + 8 * k
-    → take at b ≡ headBytes v.id v.class v.count ++ joined opBytes (take k v.ops) → b ≡ recordBytes v
+    → take at b ≡ bytes_of_head v.id v.class v.count ++ joined bytes_of_op (take k v.ops) → b ≡ bytes_of_record v
 whole v b at k l m h e f =
-    sym (take_all at b (omega arith)) ∙ f ∙ ap (λ (t : _). headBytes v.id v.class v.count ++ joined opBytes t) (take_all k v.ops (omega arith))
+    sym (take_all at b (omega arith)) ∙ f ∙ ap (λ (t : _). bytes_of_head v.id v.class v.count ++ joined bytes_of_op t) (take_all k v.ops (omega arith))
 
 abbrev invariant-loop : tie.invariant-loop
 invariant-loop slot bytes₀ at₀ k₀ bytes at k =
     (k ≤ 7) × (at ≡ 8 + 8 * k) × (length bytes ≡ 64)
-    × (take at bytes ≡ headBytes slot.id slot.class slot.count ++ joined opBytes (take k slot.ops))
+    × (take at bytes ≡ bytes_of_head slot.id slot.class slot.count ++ joined bytes_of_op (take k slot.ops))
 
 abbrev decreases-loop : tie.decreases-loop
 decreases-loop slot bytes₀ at₀ k₀ bytes at k = 7 - k
@@ -55,7 +55,7 @@ loop-again c =
       search rules,
       omega (arith, put2.ensures.0, ap length op_bytes.ensures, loop.invariant),
       search rules,
-      next-put opBytes _ _ (headBytes v.id v.class v.count) v.ops loop.k noOp (omega arith) loop.invariant.3
+      next_put bytes_of_op _ _ (bytes_of_head v.id v.class v.count) v.ops loop.k no_op (omega arith) loop.invariant.3
           (put2.ensures.1.0 ∙ ap (λ (t : List ℕ). take loop.at loop.bytes ++ t) op_bytes.ensures),
     )
 

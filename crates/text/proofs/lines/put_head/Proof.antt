@@ -5,7 +5,7 @@ use mathlib.Core.List.{[], ◌∷◌, ◌++◌}
 use borrow.Author.Rules.{rules}
 use Rattle.decimal.specs.Decimal.{decimal, blanked}
 use Rattle.decimal.proofs.Runs.{at_most}
-use Rattle.text.proofs.Forms.{blanked-short, head-pieces, then-put}
+use Rattle.text.proofs.Forms.{blanked_short, head_pieces, then_put}
 use Rattle.text.proofs.lines.put_head.Statement.{statement}
 use Rattle.text.proofs.lines.put_head.Tie as tie
 
@@ -17,7 +17,7 @@ put-blanked-requires c κs =
     let args = c.before.before.before.before.before.before.args in
     let pre = c.before.before.before.before.before.before.requires in
     let d = at_most args.id 10 (omega arith) (omega arith) in
-    let b = blanked-short args.class 2 (omega arith) (omega (arith, pre.0)) in
+    let b = blanked_short args.class 2 (omega arith) (omega (arith, pre.0)) in
     omega (arith, c.before.before.before.put-number.ensures.0, pre.1)
 
 put-requires : tie.Need-put-requires
@@ -27,7 +27,7 @@ put-requires c κs =
     let put-number = c.before.before.before.before.before.before.before.before.put-number in
     let put-blanked = c.before.before.before.before.put-blanked in
     let d = at_most args.id 10 (omega arith) (omega arith) in
-    let b = blanked-short args.class 2 (omega arith) (omega (arith, pre.0)) in
+    let b = blanked_short args.class 2 (omega arith) (omega (arith, pre.0)) in
     omega (arith, put-number.ensures.0, put-blanked.ensures.0, pre.1)
 
 returns : tie.Need-returns
@@ -38,10 +38,10 @@ returns c =
     let put-blanked = c.before.before.before.before.before.before.before.put-blanked in
     let put = c.before.before.put in
     let d = at_most args.id 10 (omega arith) (omega arith) in
-    let b = blanked-short args.class 2 (omega arith) (omega (arith, pre.0)) in
-    let numbered = then-put [] _ _ (decimal args.id) _ put-number.ensures.1.0 put-blanked.ensures.1 in (
+    let b = blanked_short args.class 2 (omega arith) (omega (arith, pre.0)) in
+    let numbered = then_put [] _ _ (decimal args.id) _ put-number.ensures.1.0 put-blanked.ensures.1 in (
       omega (arith, put-number.ensures.0, put-blanked.ensures.0, put.ensures.0),
-      then-put [] _ _ (decimal args.id ++ blanked (args.class ∷ [])) _ numbered put.ensures.1.0 ∙ head-pieces args.id args.class,
+      then_put [] _ _ (decimal args.id ++ blanked (args.class ∷ [])) _ numbered put.ensures.1.0 ∙ head_pieces args.id args.class,
     )
 
 pub put-head-spec : {M : Type 1} → statement M

@@ -5,7 +5,7 @@ use mathlib.Core.Path.{ap, ◌∙◌}
 use mathlib.Core.List.{List, ◌++◌}
 use lib.ListN.{length, take}
 use borrow.Author.Rules.{rules}
-use Rattle.text.proofs.Forms.{name-short}
+use Rattle.text.proofs.Forms.{name_short}
 use Rattle.text.proofs.lines.put_name.Statement.{statement}
 use Rattle.text.proofs.lines.put_name.Tie as tie
 
@@ -13,7 +13,7 @@ put-requires : tie.Need-put-requires
 put-requires c κs =
     let args = c.before.before.before.before.before.args in
     let pre = c.before.before.before.before.before.requires in
-    omega (arith, ap length c.before.before.before.name_of.ensures.0, name-short args.code, pre.1)
+    omega (arith, ap length c.before.before.before.name_of.ensures.0, name_short args.code, pre.1)
 
 returns : tie.Need-returns
 returns c =

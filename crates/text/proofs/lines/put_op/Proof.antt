@@ -8,7 +8,7 @@ use borrow.Author.Rules.{rules}
 use Rattle.cells.proofs.Ops.{facts}
 use Rattle.plain.specs.Record.{names}
 use Rattle.decimal.specs.Decimal.{blanked}
-use Rattle.text.proofs.Forms.{seconds, short, pieces, then-put}
+use Rattle.text.proofs.Forms.{seconds, short, pieces, then_put}
 use Rattle.text.proofs.lines.put_op.Statement.{statement}
 use Rattle.text.proofs.lines.put_op.Tie as tie
 
@@ -68,10 +68,10 @@ returns c =
     let name = get_or names o.code [] in
     let cell = name ++ blanked (o.cell ∷ []) in
     let second = cell ++ blanked (seconds o.code o.second) in
-    let named = then-put start _ _ name _ put-name.ensures.1 put-blanked.ensures.1 in
-    let celled = then-put start _ _ cell _ named put_second.ensures.1 in
-    let summed = then-put start _ _ second _ celled put-blanked2.ensures.1 in
-    let all = then-put start _ _ (second ++ blanked (o.amount ∷ [])) _ summed put.ensures.1.0 in (
+    let named = then_put start _ _ name _ put-name.ensures.1 put-blanked.ensures.1 in
+    let celled = then_put start _ _ cell _ named put_second.ensures.1 in
+    let summed = then_put start _ _ second _ celled put-blanked2.ensures.1 in
+    let all = then_put start _ _ (second ++ blanked (o.amount ∷ [])) _ summed put.ensures.1.0 in (
       omega (
         arith,
         put-name.ensures.0,

@@ -6,25 +6,25 @@ use mathlib.Core.List.{List, ◌++◌, append-nil}
 use lib.ListN.{take, length}
 use lib.Seq.{length-take-le}
 use borrow.Author.Rules.{rules}
-use Rattle.cells.specs.Ops.{noOp}
-use Rattle.slots.specs.Meaning.{requestOf}
+use Rattle.cells.specs.Ops.{no_op}
+use Rattle.slots.specs.Meaning.{request_of}
 use Rattle.slots.specs.declared.Slot.{Slot}
 use Rattle.slots.proofs.Shape.{seven}
 use Rattle.slots.proofs.Records.{held}
-use Rattle.text.specs.Text.{headLine, joined, text_of}
-use Rattle.text.proofs.Forms.{next-put, meantLine, meant-lines}
+use Rattle.text.specs.Text.{head_line, joined, text_of}
+use Rattle.text.proofs.Forms.{next_put, meant_line, meant_lines}
 use Rattle.text.proofs.lines.put_text.Statement.{statement}
 use Rattle.text.proofs.lines.put_text.Tie as tie
 
 -- all lines are the text
-whole : (v : Slot) (t : List ℕ) (k : ℕ) → k ≡ v.count → t ≡ headLine v.id v.class ++ joined meantLine (take k v.ops)
-    → t ≡ text_of (requestOf v)
+whole : (v : Slot) (t : List ℕ) (k : ℕ) → k ≡ v.count → t ≡ head_line v.id v.class ++ joined meant_line (take k v.ops)
+    → t ≡ text_of (request_of v)
 unfolding text_of
-whole v t k e h = rw (e, meant-lines (take v.count v.ops)) at h
+whole v t k e h = rw (e, meant_lines (take v.count v.ops)) at h
 
 abbrev invariant-loop : tie.invariant-loop
 invariant-loop to₀ slot n at₀ k₀ to at k =
-    (k ≤ n) × (at ≤ 14 + 22 * k) × (length to ≡ 168) × (take at to ≡ headLine slot.id slot.class ++ joined meantLine (take k slot.ops))
+    (k ≤ n) × (at ≤ 14 + 22 * k) × (length to ≡ 168) × (take at to ≡ head_line slot.id slot.class ++ joined meant_line (take k slot.ops))
 
 abbrev decreases-loop : tie.decreases-loop
 decreases-loop to₀ slot n at₀ k₀ to at k = n - k
@@ -35,7 +35,7 @@ put-head-requires c κs =
     ((held args.t2 (seven args.t2 _ c.before.well-formed.1.0) c.before.requires).class, search rules)
 
 loop-holds : tie.Need-loop-init invariant-loop decreases-loop
-loop-holds c = (search rules, search rules, search rules, c.put-head.ensures.1 ∙ sym (append-nil _))
+loop-holds c = (search rules, search rules, search rules, c.put_head.ensures.1 ∙ sym (append-nil _))
 
 element-copy-out-op : tie.Need-element-copy-out-op invariant-loop decreases-loop
 element-copy-out-op c =
@@ -61,7 +61,7 @@ loop-again c =
       search rules,
       search rules,
       search rules,
-      next-put meantLine _ _ (headLine v.id v.class) v.ops loop.k noOp (omega (arith, pre.count)) loop.invariant.3 c.put-op.ensures.1,
+      next_put meant_line _ _ (head_line v.id v.class) v.ops loop.k no_op (omega (arith, pre.count)) loop.invariant.3 c.put-op.ensures.1,
     )
 
 returns : tie.Need-returns invariant-loop decreases-loop

@@ -9,7 +9,7 @@ use borrow.Author.Count.{below_more}
 use Rattle.plain.specs.Record.{names}
 use Rattle.text.specs.Text.{blank}
 use Rattle.text.specs.Pieces.{Begins, NameAt}
-use Rattle.text.proofs.Pieces.{behind-word, room}
+use Rattle.text.proofs.Pieces.{behind_word, room}
 use Rattle.text.proofs.opline.name_at.Statement.{statement}
 use Rattle.text.proofs.opline.name_at.Tie as tie
 
@@ -28,7 +28,7 @@ stands text word at code n h k e l b =
       stands = λ p.
           b.1 ∙ ap (λ (t : List ℕ). t ++ (blank ∷ b.0)) e
           ∙ ap (λ (t : List ℕ). get_or names code [] ++ (blank ∷ t))
-          (sym (ap (λ (m : ℕ). drop (at + m + 1) text) l ∙ behind-word text word b.0 at b.1));
+          (sym (ap (λ (m : ℕ). drop (at + m + 1) text) l ∙ behind_word text word b.0 at b.1));
       none = λ z. absurd (omega arith);
     }
 

@@ -14,14 +14,14 @@ use Rattle.cells.specs.declared.Op.{Op}
 use Rattle.cells.specs.Ops.{OpOk}
 use Rattle.cells.proofs.Ops.{facts}
 use Rattle.text.specs.Text.{blank, newline}
-use Rattle.text.specs.Pieces.{line_of, NameAt, secondBefore, SecondAt, OpLineAt}
-use Rattle.text.proofs.Pieces.{blank-splits, newline-splits, number_is, second_is, line_before, behindName, name-is, no_second, second-small}
+use Rattle.text.specs.Pieces.{line_of, NameAt, second_before, SecondAt, OpLineAt}
+use Rattle.text.proofs.Pieces.{blank_splits, newline_splits, number_is, second_is, line_before, behind_name, name_is, no_second, second_small}
 use Rattle.text.proofs.opline.op_at.Statement.{statement}
 use Rattle.text.proofs.opline.op_at.Tie as tie
 
 -- no line stands there
-none-there : (l rest : List ℕ) (o : Op) (b : Bool) → b ≡ false → ((p : Op) (more : List ℕ) → OpOk p → l ≡ line_of p ++ more → ⊥) → OpLineAt l b o rest
-none-there l rest o b f h = record { rules = λ e. no _ e f; stands = λ e. no _ e f; none = λ e. h }
+none_there : (l rest : List ℕ) (o : Op) (b : Bool) → b ≡ false → ((p : Op) (more : List ℕ) → OpOk p → l ≡ line_of p ++ more → ⊥) → OpLineAt l b o rest
+none_there l rest o b f h = record { rules = λ e. no _ e f; stands = λ e. no _ e f; none = λ e. h }
 
 -- piece after piece: what is read so far is that of the line, and so is what is left
 module _ (l : List ℕ) (code : ℕ) (named : List ℕ) (name : NameAt l code named) (p : Op) (more : List ℕ) (ok : OpOk p)
@@ -32,21 +32,21 @@ module _ (l : List ℕ) (code : ℕ) (named : List ℕ) (name : NameAt l code na
       name.none z p.code _ f.known.0 f.known.1 (e ∙ line_before p.code p.cell p.second p.amount more)
 
   module _ (h : 1 ≤ code) (v : ℕ) (celled : List ℕ) (b : Bool) (cell : NumberAt named blank 255 b v celled) where
-    at_name : (code ≡ p.code) × (named ≡ behindName p more)
-    at_name = name-is l named more code p name h ok e
+    at_name : (code ≡ p.code) × (named ≡ behind_name p more)
+    at_name = name_is l named more code p name h ok e
 
     no_cell : b ≡ false → ⊥
     no_cell z = let f = facts ok in cell.none z p.cell _ (omega arith) at_name.1
 
     module _ (y : b ≡ true) (w : ℕ) (seconded : List ℕ) (d : Bool) (second : SecondAt celled code d w seconded) where
-      at-cell : (v ≡ p.cell) × (celled ≡ secondBefore p.code p.second (decimal p.amount ++ (newline ∷ more)))
-      at-cell = number_is named _ celled blank 255 v p.cell b blank-splits cell y at_name.1
+      at-cell : (v ≡ p.cell) × (celled ≡ second_before p.code p.second (decimal p.amount ++ (newline ∷ more)))
+      at-cell = number_is named _ celled blank 255 v p.cell b blank_splits cell y at_name.1
 
-      here : celled ≡ secondBefore code p.second (decimal p.amount ++ (newline ∷ more))
+      here : celled ≡ second_before code p.second (decimal p.amount ++ (newline ∷ more))
       here = rw at_name.0 at-cell.1
 
       no-second-cell : d ≡ false → ⊥
-      no-second-cell z = second.none z p.second _ (second-small p ok) here
+      no-second-cell z = second.none z p.second _ (second_small p ok) here
 
       module _ (t : d ≡ true) (a : ℕ) (rest : List ℕ) (g : Bool) (amount : NumberAt seconded newline 4294967295 g a rest) where
         at_second : (w ≡ p.second) × (seconded ≡ decimal p.amount ++ (newline ∷ more))
@@ -58,7 +58,7 @@ module _ (l : List ℕ) (code : ℕ) (named : List ℕ) (name : NameAt l code na
         -- all of it is that of the line
         same_op : g ≡ true → (o : Op) → o ≡ record { code = code; cell = v; second = w; amount = a } → OpOk o
         same_op y o q =
-            let k : a ≡ p.amount = (number_is seconded more rest newline 4294967295 a p.amount g newline-splits amount y at_second.1).0 in
+            let k : a ≡ p.amount = (number_is seconded more rest newline 4294967295 a p.amount g newline_splits amount y at_second.1).0 in
             let s : o ≡ p = q ∙ (λ i. record { code = at_name.0 i; cell = at-cell.0 i; second = at_second.0 i; amount = k i }) in
             subst OpOk (sym s) ok
 
@@ -74,19 +74,19 @@ line-there l named celled seconded rest o b d g ok x y z name cell second amount
           name.stands f.known.0
           ∙ ap (λ (t : List ℕ). get_or names o.code [] ++ (blank ∷ t)) (cell.stands x
           ∙ ap (λ (t : List ℕ). decimal o.cell ++ (blank ∷ t)) (second.stands y
-          ∙ ap (secondBefore o.code o.second) (amount.stands z)))
+          ∙ ap (second_before o.code o.second) (amount.stands z)))
           ∙ sym (line_before o.code o.cell o.second o.amount rest);
       none = λ e. no _ refl e;
     }
 
 returns : tie.Need-returns
-returns c = (none-there _ _ _ _ c.no_line.ensures.0 (λ p more ok e. no_name _ _ _ c.before.before.before.name-at.ensures.0 p more ok e c.before.if1.true), search rules)
+returns c = (none_there _ _ _ _ c.no_line.ensures.0 (λ p more ok e. no_name _ _ _ c.before.before.before.name-at.ensures.0 p more ok e c.before.if1.true), search rules)
 
 returns-2 : tie.Need-returns-2
 returns-2 c =
     let name-at-call = c.before.before.before.before.before.before.name-at in
     let name-at = name-at-call in (
-      none-there _ _ _ _ c.no-line2.ensures.0 (λ p more ok e.
+      none_there _ _ _ _ c.no-line2.ensures.0 (λ p more ok e.
           no_cell _ _ _ name-at.ensures.0 p more ok e (omega arith) _ _ _ c.before.before.before.number_at.ensures.0 (not-true _ c.before.if2.true)),
       search rules,
     )
@@ -102,7 +102,7 @@ returns-3 c =
     let name-at = name-at-call in
     let number_at = number-at-call in
     let if2 = if2-call in (
-      none-there _ _ _ _ no-line3.ensures.0 (λ p more ok e.
+      none_there _ _ _ _ no-line3.ensures.0 (λ p more ok e.
           no-second-cell _ _ _ name-at.ensures.0 p more ok e (omega (arith, if1.false)) _ _ _ number_at.ensures.0 (not-false _ if2.false) _ _ _
           c.before.before.before.second_at.ensures.0 (not-true _ c.before.if3.true)),
       omega (arith, no-line3.ensures.1, pre),
@@ -125,7 +125,7 @@ returns-4 c =
     let second_at = second-at-call in
     let if3 = if3-call in
     let pre = pre-call in (
-      none-there _ _ _ _ no-line4.ensures.0 (λ p more ok e.
+      none_there _ _ _ _ no-line4.ensures.0 (λ p more ok e.
           no-amount _ _ _ name-at.ensures.0 p more ok e (omega (arith, if1.false)) _ _ _ number_at.ensures.0 (not-false _ if2.false) _ _ _
           second_at.ensures.0 (not-false _ if3.false) _ _ _ c.before.before.before.number-at2.ensures.0 (not-true _ c.before.if4.true)),
       omega (arith, no-line4.ensures.1, pre),
@@ -152,7 +152,7 @@ returns-5 c =
     let number-at2 = number-at2-call in
     let if4 = if4-call in
     let pre = pre-call in (
-      none-there _ _ _ _ no-line5.ensures.0 (λ p more ok e.
+      none_there _ _ _ _ no-line5.ensures.0 (λ p more ok e.
           c.before.before.op_ok.ensures.no (not-true _ c.before.if5.true) (same_op _ _ _ name-at.ensures.0 p more ok e (omega (arith, if1.false)) _ _ _
           number_at.ensures.0 (not-false _ if2.false) _ _ _ second_at.ensures.0 (not-false _ if3.false) _ _ _
           number-at2.ensures.0 (not-false _ if4.false) _ refl)),

@@ -8,46 +8,46 @@ use borrow.Author.Rules.{rules}
 use borrow.Author.Tests.{not-true, not-false}
 use Rattle.plain.proofs.Tests.{no}
 use Rattle.decimal.specs.Decimal.{decimal, NumberAt}
-use Rattle.text.specs.Text.{blank, newline, headLine}
+use Rattle.text.specs.Text.{blank, newline, head_line}
 use Rattle.text.specs.Pieces.{HeadRules, HeadAt}
-use Rattle.text.proofs.Pieces.{blank-splits, number_is, head-before}
+use Rattle.text.proofs.Pieces.{blank_splits, number_is, head_before}
 use Rattle.text.proofs.parse.head_at.Statement.{statement}
 use Rattle.text.proofs.parse.head_at.Tie as tie
 
 -- no first line stands there
-none-there : (t rest : List ℕ) → ((i c : ℕ) (more : List ℕ) → HeadRules i c → t ≡ headLine i c ++ more → ⊥) → HeadAt t false 0 0 rest
-none-there t rest h = record { rules = λ e. no _ e refl; stands = λ e. no _ e refl; none = λ e. h }
+none_there : (t rest : List ℕ) → ((i c : ℕ) (more : List ℕ) → HeadRules i c → t ≡ head_line i c ++ more → ⊥) → HeadAt t false 0 0 rest
+none_there t rest h = record { rules = λ e. no _ e refl; stands = λ e. no _ e refl; none = λ e. h }
 
 module _ (t behind : List ℕ) (v : ℕ) (b : Bool) (id : NumberAt t blank 4294967295 b v behind) (i c : ℕ) (more : List ℕ) (h : HeadRules i c)
-    (e : t ≡ headLine i c ++ more) where
-  no-id : b ≡ false → ⊥
-  no-id z = id.none z i _ (omega (arith, h.id-fits)) (e ∙ head-before i c more)
+    (e : t ≡ head_line i c ++ more) where
+  no_id : b ≡ false → ⊥
+  no_id z = id.none z i _ (omega (arith, h.id_fits)) (e ∙ head_before i c more)
 
   at-id : b ≡ true → (v ≡ i) × (behind ≡ decimal c ++ (newline ∷ more))
-  at-id y = number_is t _ behind blank 4294967295 v i b blank-splits id y (e ∙ head-before i c more)
+  at-id y = number_is t _ behind blank 4294967295 v i b blank_splits id y (e ∙ head_before i c more)
 
   no-class : (w : ℕ) (rest : List ℕ) (d : Bool) → b ≡ true → NumberAt behind newline 15 d w rest → d ≡ false → ⊥
-  no-class w rest d y class z = class.none z c _ (omega (arith, h.class-fits)) (at-id y).1
+  no-class w rest d y class z = class.none z c _ (omega (arith, h.class_fits)) (at-id y).1
 
 -- the first line stands there
-head-there : (t behind rest : List ℕ) (i c : ℕ) (b d : Bool) → 0 < i → b ≡ true → d ≡ true → NumberAt t blank 4294967295 b i behind
+head_there : (t behind rest : List ℕ) (i c : ℕ) (b d : Bool) → 0 < i → b ≡ true → d ≡ true → NumberAt t blank 4294967295 b i behind
     → NumberAt behind newline 15 d c rest → HeadAt t true i c rest
-head-there t behind rest i c b d h y z id class =
+head_there t behind rest i c b d h y z id class =
     record {
-      rules = λ e. record { id-not-zero = h; id-fits = omega (arith, id.small); class-fits = omega (arith, class.small) };
-      stands = λ e. id.stands y ∙ ap (λ (x : List ℕ). decimal i ++ (blank ∷ x)) (class.stands z) ∙ sym (head-before i c rest);
+      rules = λ e. record { id_not_zero = h; id_fits = omega (arith, id.small); class_fits = omega (arith, class.small) };
+      stands = λ e. id.stands y ∙ ap (λ (x : List ℕ). decimal i ++ (blank ∷ x)) (class.stands z) ∙ sym (head_before i c rest);
       none = λ e. no _ refl e;
     }
 
 returns : tie.Need-returns
-returns c = (none-there _ _ (λ i k more h e. no-id _ _ _ _ c.before.before.number_at.ensures.0 i k more h e (not-true _ c.if1.true)), search rules)
+returns c = (none_there _ _ (λ i k more h e. no_id _ _ _ _ c.before.before.number_at.ensures.0 i k more h e (not-true _ c.if1.true)), search rules)
 
 returns-2 : tie.Need-returns-2
 returns-2 c =
     let number_at = c.before.before.before.before.number_at in (
-      none-there _ _ (λ i k more h e.
+      none_there _ _ (λ i k more h e.
           let q = (at-id _ _ _ _ number_at.ensures.0 i k more h e (not-false _ c.before.before.if1.false)).0 in
-          omega (arith, h.id-not-zero, q, c.if2.true)),
+          omega (arith, h.id_not_zero, q, c.if2.true)),
       search rules,
     )
 
@@ -55,7 +55,7 @@ returns-3 : tie.Need-returns-3
 returns-3 c =
     let number_at = c.before.before.before.before.before.before.before.number_at in
     let if1 = c.before.before.before.before.before.if1 in (
-      none-there _ _ (λ i k more h e. no-class _ _ _ _ number_at.ensures.0 i k more h e _ _ _ (not-false _ if1.false)
+      none_there _ _ (λ i k more h e. no-class _ _ _ _ number_at.ensures.0 i k more h e _ _ _ (not-false _ if1.false)
           c.before.before.number-at2.ensures.0 (not-true _ c.if3.true)),
       search rules,
     )
@@ -65,7 +65,7 @@ returns-4 c =
     let if1 = c.before.before.before.before.before.before.before.if1 in
     let number_at = c.before.before.before.before.before.before.before.before.before.number_at in
     let number-at2 = c.before.before.before.before.number-at2 in (
-      head-there _ _ _ _ _ _ _ (omega arith) (not-false _ if1.false) (not-false _ c.before.before.if3.false) number_at.ensures.0 number-at2.ensures.0,
+      head_there _ _ _ _ _ _ _ (omega arith) (not-false _ if1.false) (not-false _ c.before.before.if3.false) number_at.ensures.0 number-at2.ensures.0,
       search rules,
     )
 
