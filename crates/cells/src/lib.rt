@@ -1,4 +1,6 @@
 // Operations, and the cells of a class.
+#![tactic(auto)]
+
 ghost use Rattle.std.specs.Prelude.{◌≡◌, ◌*◌, ◌<◌, false, length, replicate, if◌then◌else◌};
 ghost use Rattle.std.proofs.Math.Option.{none, some};
 ghost use Rattle.plain.specs.Sizes.{class_count, cell_count};

@@ -1,5 +1,7 @@
 // The pieces of the soundness check: each decides one of document 01's rules, of the slots' fields gathered once, the queue places and the
 // classes' lengths.
+#![tactic(auto)]
+
 ghost use Rattle.std.specs.Prelude.{◌≡◌, ◌+◌, ◌≤◌, length};
 ghost use Rattle.plain.specs.Sizes.{slot_count, query_count};
 ghost use Rattle.plain.specs.Decides.{Decides};

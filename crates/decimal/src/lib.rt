@@ -1,4 +1,6 @@
 // Numbers as decimal text: written behind what stands in a buffer, and read from a place in a text.
+#![tactic(auto)]
+
 ghost use Rattle.std.specs.Prelude.{◌+◌, ◌^◌, ◌≤◌, ◌<◌, ◌≡◌, ◌++◌, length, take, drop};
 ghost use Rattle.decimal.specs.Decimal.{decimal, NumberAt, EndsAt};
 

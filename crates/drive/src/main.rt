@@ -1,5 +1,7 @@
 // Reads events from standard input, makes the call of each on a site that began fresh, and writes a line for each to standard output. That reading
 // hands over the input and that what is written comes out is left to the system.
+#![tactic(auto)]
+
 ghost use Rattle.std.specs.Prelude.{◌≡◌, ◌+◌, ◌≤◌, [], ◌++◌, length, take, drop};
 ghost use Rattle.site.specs.Held.{state_of};
 ghost use Rattle.promises.specs.Runs.{FromFresh};

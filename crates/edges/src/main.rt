@@ -1,4 +1,6 @@
 // Runs both sides of each edge of document 01 that is not marked P, and writes a line for each: what is tried, and what is answered.
+#![tactic(auto)]
+
 use site::{Answer, Site};
 
 // Writes the answer's word and its numbers, and ends the line.

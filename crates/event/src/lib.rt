@@ -1,4 +1,6 @@
 // The event of the driving program: 72 bytes, and the call that they ask for, made on a site with its cells.
+#![tactic(auto)]
+
 ghost use Rattle.site.specs.Held.{state_of, answer_of};
 ghost use Rattle.std.specs.Prelude.{◌≤◌};
 ghost use Rattle.line.specs.Text.{written};

@@ -1,4 +1,6 @@
 // The calls for hosts in C and Rust: a site by value in and out, cells and record as slices, the answer as six numbers in a lent array.
+#![tactic(auto)]
+
 ghost use Rattle.std.specs.Prelude.{◌≡◌, []};
 ghost use Rattle.plain.specs.Site.{offer, confirm, work, read, look, query};
 ghost use Rattle.store.specs.Meaning.{cells_of};

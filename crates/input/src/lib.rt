@@ -1,4 +1,6 @@
 // Standard input, read by blocks. What the system hands over is assumed to be the input; no contract can say what it is.
+#![tactic(auto)]
+
 ghost use Rattle.std.specs.Prelude.{◌≤◌, ◌≡◌};
 ghost use Rattle.io.specs.Counts.{IsPrefixLen};
 ghost use Rattle.input.specs.Pieces.{whole_part};

@@ -1,4 +1,6 @@
 // The ids of the last 256 confirmations, that of number n at place n mod 256: what each of their sound rules asks, decided by one walk.
+#![tactic(auto)]
+
 ghost use Rattle.std.specs.Prelude.{◌<◌, ◌≤◌, ◌≡◌, true};
 ghost use Rattle.plain.specs.Site.{Recent};
 ghost use Rattle.plain.specs.Decides.{Decides};

@@ -1,4 +1,6 @@
 // The text of one line of output: the event's place in the input, a word, numbers.
+#![tactic(auto)]
+
 ghost use Rattle.std.specs.Prelude.{◌+◌, ◌*◌, ◌≤◌, ◌≡◌, [], ◌++◌, length};
 ghost use Rattle.site.specs.Held.{answer_of};
 ghost use Rattle.decimal.specs.Decimal.{decimal, blanked};

@@ -3,7 +3,7 @@
 -- Assumes nothing.
 use Prim.Native.Nat.{ℕ, suc, ◌<◌, ◌≤◌}
 use native.Mathlib.Omega.{arith}
-use mathlib.Core.Path.{◌≡◌, refl, sym, ap, ◌∙◌}
+use mathlib.Core.Path.{◌≡◌, refl, sym, ap, subst, ◌∙◌}
 use mathlib.Core.Bool.{Bool, true, false, cond}
 use mathlib.Core.Logic.{inl, inr}
 use mathlib.Core.List.{List, [], ◌∷◌}
@@ -12,7 +12,7 @@ use lib.Dec.{eqb}
 use borrow.Author.Tests.{eqb-false, eq-eqb, ne_eqb}
 use Rattle.plain.specs.Record.{request_in}
 use Rattle.plain.specs.Queue.{Entry, Item, booking, reading, id_of, is_executed, id_is, is_confirmed, any, count, has, owed}
-use Rattle.plain.specs.Steps.{Class, Did, Answer, refused, committed, to_do, unconfirmed, new_entry, tried, advanced, work_on, work_step, offer_step}
+use Rattle.plain.specs.Steps.{Class, Did, Answer, refused, committed, to_do, unconfirmed, new_entry, tried, put_back, advanced, work_on, work_step, offer_step}
 use Rattle.plain.specs.Steps.{begun, ending, numbered, backed, back_id, confirm_on, confirm_step, query_on, query_step}
 use Rattle.plain.specs.Site.{Site, Call, offer, work, confirm, read, look, query, fresh, call, act, accepts, class_of, slot_free, in_class}
 use Rattle.plain.specs.Site.{standing, entry_at, confirmed_at, commits_by, named, free_place, begins}
@@ -95,8 +95,19 @@ module _ (f : ℕ → ℕ) where
   head_back_lem (reading p b) rest z u h = unnamed 0 (reading p b ∷ rest) z h
   head_back_lem (booking x) rest z u h =
       by_test (is_confirmed (booking x))
-      (λ t. rw t (unnamed 0 (booking x ∷ rest) z h))
-      (λ g. rw g (rw (eq-eqb (id_of x) (id_of x) refl) (ap suc h.0), unnamed (id_of x) rest (head_alone x rest (u (id_of x))) h.1))
+      (λ t. let none : back_id (booking x) ≡ 0 = rw t refl in
+      let same : backed (booking x) ≡ booking x = rw t refl in
+      told_back (sym none) (sym same) (unnamed 0 (booking x ∷ rest) z h))
+      (λ g. let its : back_id (booking x) ≡ id_of x = rw g refl in
+      let new : backed (booking x) ≡ put_back (booking x) = rw g refl in
+      told_back (sym its) (sym new) (rw (eq-eqb (id_of x) (id_of x) refl) (ap suc h.0), unnamed (id_of x) rest (head_alone x rest (u (id_of x))) h.1))
+    where
+      told_back : {b : ℕ} {y : Item} → b ≡ back_id (booking x) → y ≡ backed (booking x) → All (OfRequest (Back b)) (y ∷ rest)
+          → All (OfRequest (Back (back_id (booking x)))) (backed (booking x) ∷ rest)
+      told_back {b = b} e f a =
+          let P : ℕ → Type 0 = λ n. All (OfRequest (Back n)) (backed (booking x) ∷ rest) in
+          let Q : Item → Type 0 = λ y. All (OfRequest (Back b)) (y ∷ rest) in
+          subst P e (subst Q f a)
 
   module _ (s : Site) (mask : ℕ) where
     abbrev Now : Answer → Entry → Type 0

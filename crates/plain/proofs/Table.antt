@@ -2,7 +2,7 @@
 -- Assumes nothing.
 use Prim.Native.Nat.{ℕ, ◌≤◌}
 use native.Mathlib.Omega.{arith}
-use mathlib.Core.Path.{◌≡◌, refl, ap, subst}
+use mathlib.Core.Path.{◌≡◌, refl, sym, ap, subst, ◌∙◌}
 use mathlib.Core.Logic.{◌⊎◌, inl, inr}
 use mathlib.Core.Bool.{Bool, true, false}
 use mathlib.Core.List.{List, [], ◌∷◌, ◌++◌}
@@ -70,10 +70,16 @@ pub in_order : (m : ℕ) (ts : List (Bool × ℕ)) → Rising m ts → All (λ t
 in_order m [] r = tt
 in_order m (t ∷ ts) r =
     by_test t.0
-    (λ y. rw y ((λ e. omega arith), above (row t.1) ts r.1))
-    (λ f. rw f ((λ e. no_both e), in_order (row t.1) ts r.1))
+    (λ y. let first_is : first (t ∷ ts) ≡ t.1 = rw y refl in
+    ((λ e. rw first_is (omega arith)), from_first (sym first_is) (above (row t.1) ts r.1)))
+    (λ f. let first_is : first (t ∷ ts) ≡ first ts = rw f refl in
+    ((λ e. no_both (sym f ∙ e)), from_first (sym first_is) (in_order (row t.1) ts r.1)))
   where
-    no_both : false ≡ true → row (first ts) ≤ row t.1
+    from_first : {n : ℕ} → n ≡ first (t ∷ ts) → All (λ u. u.0 ≡ true → row n ≤ row u.1) ts
+        → All (λ u. u.0 ≡ true → row (first (t ∷ ts)) ≤ row u.1) ts
+    from_first e a = let P : ℕ → Type 0 = λ n. All (λ u. u.0 ≡ true → row n ≤ row u.1) ts in subst P e a
+
+    no_both : false ≡ true → row (first (t ∷ ts)) ≤ row t.1
     no_both e = let z : ◌≡◌ {A = ℕ} 0 1 = cc in absurd (omega arith)
 
     above : (n : ℕ) (us : List (Bool × ℕ)) → Rising n us → All (λ u. u.0 ≡ true → n ≤ row u.1) us

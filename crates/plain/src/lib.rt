@@ -1,1 +1,3 @@
 // The theory only: definitions in specs/, laws in proofs/.
+#![tactic(auto)]
+

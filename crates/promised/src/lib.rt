@@ -1,4 +1,6 @@
 // The calls of a site, each with what is promised of it as its contract. A function here only makes the call of `site`.
+#![tactic(auto)]
+
 ghost use Rattle.std.specs.Prelude.{[]};
 ghost use Rattle.plain.specs.Site as P;
 ghost use Rattle.store.specs.Meaning.{cells_of};

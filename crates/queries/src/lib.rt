@@ -1,5 +1,7 @@
 // The table of open queries: for each of 8 places the classes still to read, bit by bit, and the count of confirmations when the query began. A place is
 // free, and all zero, where no class is left.
+#![tactic(auto)]
+
 ghost use Rattle.std.specs.Prelude.{◌≡◌, cond, eqb, ◌<◌};
 ghost use Rattle.plain.specs.Site.{named};
 ghost use Rattle.queries.specs.Table.{Grown, Shrunk, lowest_free_place};

@@ -1,4 +1,6 @@
 // What the programs of the text form say of a record that is refused. That what is written comes out on standard error is left to the system.
+#![tactic(auto)]
+
 ghost use Rattle.std.specs.Prelude.{◌≤◌, ◌≡◌, length, take};
 ghost use Rattle.io.specs.Counts.{IsPrefixLen};
 ghost use Rattle.text.specs.Calls.{refused, refused_at, answer_of};

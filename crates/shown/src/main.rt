@@ -1,5 +1,7 @@
 // Reads records from standard input, one after another, and writes the text of each to standard output. That reading hands over the input and
 // that what is written comes out is left to the system.
+#![tactic(auto)]
+
 ghost use Rattle.std.specs.Prelude.{◌≡◌, ◌+◌, ◌≤◌, length, take};
 ghost use Rattle.text.specs.Calls.{answer_of};
 ghost use Rattle.shown.specs.Showing.{records_of, ShowsOne, Shows};

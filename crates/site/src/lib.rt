@@ -1,4 +1,6 @@
 // The site: its value, the check that it is sound with its cells, and fresh. The calls stand in offer, work, confirm, look and query.
+#![tactic(auto)]
+
 ghost use Rattle.std.specs.Prelude.{◌≡◌, length};
 ghost use Rattle.plain.specs.Decides.{Decides};
 ghost use Rattle.store.specs.Sound.{Sound};

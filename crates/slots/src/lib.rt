@@ -1,4 +1,6 @@
 // The slot: one booking request with how far it has come, and its rules.
+#![tactic(auto)]
+
 ghost use Rattle.std.specs.Prelude.{◌≡◌, ◌⊎◌};
 ghost use Rattle.plain.specs.Decides.{Decides};
 ghost use Rattle.slots.specs.Meaning.{slot_free};

@@ -1,4 +1,6 @@
 // The text form of a booking request: written from a record, and read into one.
+#![tactic(auto)]
+
 ghost use Rattle.text.specs.Calls.{answer_of, Handed, Wrote, Took};
 
 use decimal::put;

@@ -1,6 +1,8 @@
 // Reads bookings in text form from standard input, one after another, and writes the record of each to standard output. A booking ends before
 // the next line that begins with a digit, or at the end of the input. That reading hands over the input and that what is written comes out is left
 // to the system.
+#![tactic(auto)]
+
 ghost use Rattle.std.specs.Prelude.{◌≡◌, ◌+◌, ◌-◌, ◌<◌, ◌≤◌, not, ◌&&◌, length, take, drop, nat_lt, slice_index};
 ghost use Rattle.io.specs.Counts.{IsPrefixLen};
 ghost use Rattle.text.specs.Calls.{answer_of};

@@ -4,14 +4,10 @@ use native.Mathlib.Omega.{arith}
 use lib.ListN.{length}
 use borrow.Author.Rules.{rules}
 use Rattle.places.proofs.Classes.{short_class}
-use Rattle.places.proofs.take_head.Statement.{statement}
-use Rattle.places.proofs.take_head.Tie as tie
+use Rattle.places.proofs.take_head.Goals as goal
 
-returns : tie.Need-returns
+pub returns : goal.returns
 returns c =
-    let a = c.before.before.args in
+    let a = c.args in
     let l : length a.q.now ≡ 2176 = search rules in
     short_class a.q.now a.class l (omega arith) a.len _ (omega arith) (omega arith) c.close_up.ensures
-
-pub take-head-spec : {M : Type 1} → statement M
-take-head-spec = tie.close (tie.spec (λ c. search rules) (λ c. search rules) (λ c κs. search rules) returns)

@@ -4,15 +4,10 @@ use native.Mathlib.Omega.{arith}
 use lib.ListN.{length}
 use borrow.Author.Rules.{rules}
 use Rattle.places.proofs.Classes.{moved_class}
-use Rattle.places.proofs.move_forward.Statement.{statement}
-use Rattle.places.proofs.move_forward.Tie as tie
+use Rattle.places.proofs.move_forward.Goals as goal
 
-returns : tie.Need-returns
+pub returns : goal.returns
 returns c =
-    let a = c.before.before.args in
+    let a = c.args in
     let l : length a.q.now ≡ 2176 = search rules in
     moved_class a.q.now a.class l (omega arith) a.from a.to _ (omega arith) (omega arith) c.shift_back.ensures
-
-pub move-forward-spec : {M : Type 1} → statement M
-move-forward-spec =
-    tie.close (tie.spec (λ c. search rules) (λ c. search rules) (λ c. search rules) (λ c κs. search rules) returns)
