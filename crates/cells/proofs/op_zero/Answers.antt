@@ -2,15 +2,11 @@
 use Rattle.std.proofs.Common.{ap}
 use Rattle.plain.proofs.Deciding.{decides_as, decides_both, decides_eq}
 use Rattle.cells.specs.declared.Op.{Op}
-use Rattle.cells.proofs.op_zero.Statement.{statement}
-use Rattle.cells.proofs.op_zero.Tie as tie
+use Rattle.cells.proofs.op_zero.Goals as goal
 
-returns : tie.Need-returns
+pub returns : goal.returns
 returns c =
     decides_as
     (λ h. λ i. record { code = h.0.0.0 i; cell = h.0.0.1 i; second = h.0.1 i; amount = h.1 i })
     (λ e. (((ap (λ (o : Op). o.code) e, ap (λ (o : Op). o.cell) e), ap (λ (o : Op). o.second) e), ap (λ (o : Op). o.amount) e))
     (decides_both (decides_both (decides_both (decides_eq _ 0) (decides_eq _ 0)) (decides_eq _ 0)) (decides_eq _ 0))
-
-pub op-zero-spec : {M : Type 1} → statement M
-op-zero-spec = tie.close (tie.spec returns)

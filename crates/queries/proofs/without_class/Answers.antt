@@ -1,14 +1,9 @@
 -- `queries::without_class` meets its contract: the `and` with the complement of the digit c clears it. Assumes nothing.
-use borrow.Author.Rules.{rules}
 use Rattle.usedmap.proofs.Bits.{bits_and, one_shifted}
 use Rattle.queries.proofs.Masks.{shrunk}
-use Rattle.queries.proofs.without_class.Statement.{statement}
-use Rattle.queries.proofs.without_class.Tie as tie
+use Rattle.queries.proofs.without_class.Goals as goal
 
-returns : tie.Need-returns
+pub returns : goal.returns
 returns c =
     rw (one_shifted 16 c.args.c c.requires) (shrunk c.args.mask c.args.c _ c.requires (bits_and 16 c.args.mask c.args.c
     c.ranges.mask.fits c.requires))
-
-pub without-class-spec : {M : Type 1} → statement M
-without-class-spec = tie.close (tie.spec (λ c. search rules) (λ c. search rules) returns)
