@@ -32,7 +32,7 @@ pub const MOVE: u8 = 4;
 pub const SECOND: [bool; 5] = [false, false, false, false, true];
 
 #[repr(C)]
-#[derive(Drop)]
+#[derive(Clone, Copy)]
 pub struct Op {
     pub code: u8,
     pub cell: u8,

@@ -7,7 +7,7 @@ ghost use Rattle.plain.specs.Site.{named};
 ghost use Rattle.queries.specs.Table.{Grown, Shrunk, lowest_free_place};
 
 #[repr(C)]
-#[derive(Drop)]
+#[derive(Clone, Copy)]
 pub struct Query {
     pub classes: u16,
     pub begun: u32,

@@ -15,7 +15,7 @@ pub mod steps; // steps.rt: a slot's operations on the cells of its class
 pub const MOST_OPS: usize = 7;
 
 #[repr(C)]
-#[derive(Drop)]
+#[derive(Clone, Copy)]
 pub struct Slot {
     pub id: u32,
     pub class: u8,
