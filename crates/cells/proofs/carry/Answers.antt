@@ -37,7 +37,7 @@ returns-in-1 c = record { cells_value = simp c.in-1.is; cells_unchanged = (λ f.
 
 pub returns-in-2 : goal.returns-in-2
 unfolding P.carry
-returns-in-2 c = record { cells_value = simp (c.in-2.is, c.wrapping_add_u32.ensures); cells_unchanged = (λ f. no _ refl f) }
+returns-in-2 c = record { cells_value = simp (c.in-2.is, c.wrapping_add_u32.ensures.value); cells_unchanged = (λ f. no _ refl f) }
 
 pub returns-in-3 : goal.returns-in-3
 unfolding P.carry

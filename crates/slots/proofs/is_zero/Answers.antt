@@ -1,18 +1,16 @@
 -- Each field is looked at. Assumes nothing.
 use mathlib.Core.Path.{ap}
-use borrow.Author.Rules.{rules}
 use Rattle.plain.proofs.Deciding.{decides_as, decides_both, decides_eq}
 use Rattle.slots.specs.declared.Slot.{Slot}
 use Rattle.slots.proofs.Shape.{seven}
 use Rattle.slots.proofs.Records.{free_zero, all_zero}
-use Rattle.slots.proofs.is_zero.Statement.{statement}
-use Rattle.slots.proofs.is_zero.Tie as tie
+use Rattle.slots.proofs.is_zero.Goals as goal
 
-returns : tie.Need-returns
+pub returns : goal.returns
 returns c =
-    let v = c.before.before.before.before.before.before.before.before.args.v in
+    let v = c.args.v in
     decides_as
-    (λ h. all_zero v (seven v _ c.before.before.before.before.before.before.before.before.well-formed.0) h.1 h.0.0.0.0 h.0.0.0.1 h.0.0.1 h.0.1.0.0.0 h.0.1.0.0.1 h.0.1.0.1 h.0.1.1)
+    (λ h. all_zero v (seven v _ c.well_formed.0) h.1 h.0.0.0.0 h.0.0.0.1 h.0.0.1 h.0.1.0.0.0 h.0.1.0.0.1 h.0.1.0.1 h.0.1.1)
     (λ e. (
       (
         ((ap (λ (v : Slot). v.id) e, ap (λ (v : Slot). v.class) e), ap (λ (v : Slot). v.count) e),
@@ -23,7 +21,4 @@ returns c =
     (decides_both (decides_both
     (decides_both (decides_both (decides_eq _ 0) (decides_eq _ 0)) (decides_eq _ 0))
     (decides_both (decides_both (decides_both (decides_eq _ 0) (decides_eq _ 0)) (decides_eq _ 0)) (decides_eq _ 0)))
-    c.ops-zero.ensures)
-
-pub is-zero-spec : {M : Type 1} → statement M
-is-zero-spec = tie.close (tie.spec (λ c κs. search rules) returns)
+    c.ops_zero.ensures)
