@@ -1,0 +1,29 @@
+-- After s slots n is how many of them hold a number. Assumes nothing.
+use Prim.Native.Nat.{◌-◌}
+use native.Mathlib.Omega.{arith}
+use mathlib.Core.Path.{◌≡◌}
+use mathlib.Core.Logic.{⊎_elim}
+use borrow.Author.Rules.{rules}
+use Rattle.plain.specs.Sizes.{slot_count}
+use Rattle.store.specs.Checks.{nth}
+use Rattle.store.proofs.Tally.{one_numbered, not_numbered, none_numbered}
+use Rattle.checks.proofs.numbered.Goals as goal
+
+pub loop-s-init : goal.loop-s-init
+loop-s-init c = (search rules, search rules, none_numbered _)
+
+pub loop-s-preserved : goal.loop-s-preserved
+loop-s-preserved c =
+    let if1· = c.if-lines-s-ne0 in
+    let numbers· = nth c.args.lines.now in
+    let s· = c.loop-s.s in (
+      search rules,
+      ⊎_elim (λ w. omega (arith, w.1)) (λ w. omega (arith, w.1)) if1·.branch,
+      ⊎_elim
+          (λ w. omega (arith, w.1, one_numbered numbers· s· w.0.taken))
+          (λ w. omega (arith, w.1, not_numbered numbers· s· w.0.left))
+          if1·.branch,
+    )
+
+pub returns : goal.returns
+returns c = let loop· = c.loop-s in let e : loop·.s ≡ slot_count = omega arith in rw e at loop·.invariant.2
