@@ -1,7 +1,6 @@
 -- Each piece decides one rule, and the pieces before it give what it asks for. Assumes nothing.
 use Prim.Native.Nat.{◌+◌}
 use native.Mathlib.Omega.{arith}
-use borrow.Author.Tests.{not-false}
 use Rattle.plain.proofs.Deciding.{decides_false, decides_as, decides_eq}
 use Rattle.store.specs.Checks.{flag_of, nth}
 use Rattle.store.proofs.Taking.{once_by_ids, range_of}
@@ -46,9 +45,9 @@ in_order-requires c =
     let if2· = c.if-not-lens_short in
     let the-args = c.args in
     let pre· = c.requires in (
-      lens-short·.ensures.yes (not-false _ if2·.false),
+      lens-short·.ensures.yes if2·.false,
       range_of (flag_of the-args.low the-args.high) (nth the-args.classes.now) the-args.table
-          the-args.queue.now the-args.lens.now pre·.0 pre·.1 (lens-short·.ensures.yes (not-false _ if2·.false)) (c.each_once.ensures.yes
+          the-args.queue.now the-args.lens.now pre·.0 pre·.1 (lens-short·.ensures.yes if2·.false) (c.each_once.ensures.yes
           c.if-not-each_once.false),
     )
 
@@ -61,9 +60,9 @@ sums_right-requires c =
     let if2· = c.if-not-lens_short in
     let the-args = c.args in
     let pre· = c.requires in (
-      lens-short·.ensures.yes (not-false _ if2·.false),
+      lens-short·.ensures.yes if2·.false,
       range_of (flag_of the-args.low the-args.high) (nth the-args.classes.now) the-args.table
-          the-args.queue.now the-args.lens.now pre·.0 pre·.1 (lens-short·.ensures.yes (not-false _ if2·.false)) (c.each_once.ensures.yes
+          the-args.queue.now the-args.lens.now pre·.0 pre·.1 (lens-short·.ensures.yes if2·.false) (c.each_once.ensures.yes
           c.if-not-each_once.false),
     )
 
@@ -80,9 +79,9 @@ returns c =
     (λ e. record {
       short = c.lens_short.ensures.yes c.if-not-lens_short.false;
       tails = c.tails_zero.ensures.yes c.if-not-tails_zero.false;
-      map = map-agrees·.ensures.yes (not-false _ if4·.false);
+      map = map-agrees·.ensures.yes if4·.false;
       once = (once_by_ids the-args.low the-args.high (nth the-args.ids.now) (nth the-args.classes.now) the-args.table the-args.queue.now
-          the-args.lens.now (map-agrees·.ensures.yes (not-false _ if4·.false)) c.each_once.ensures).yes c.if-not-each_once.false;
+          the-args.lens.now (map-agrees·.ensures.yes if4·.false) c.each_once.ensures).yes c.if-not-each_once.false;
       differ = c.pairs_differ.ensures.yes c.if-not-pairs_differ.false;
       places = c.in_order.ensures.yes c.if-not-in_order.false;
       sums_right = c.sums_right.ensures.yes c.if-not-sums_right.false;

@@ -6,11 +6,11 @@ use mathlib.Core.Path.{sym, ◌∙◌}
 use mathlib.Core.Logic.{⊎_elim}
 use borrow.Author.Count.{below_none, below_more}
 use borrow.Author.Rules.{rules}
-use borrow.Author.Tests.{not-false}
 use Rattle.plain.proofs.Deciding.{decides_true, decides_false}
 use Rattle.store.specs.Checks.{nth}
 use Rattle.store.proofs.Cells.{lent_long, at_empty, at_head}
 use Rattle.checks.proofs.cells_ok.Goals as goal
+use Rattle.checks.proofs.cells_ok.Goals.{else-heads-c-ge-SLOT_LIMIT+else-not-head_ok, then-heads-c-ge-SLOT_LIMIT+else-not-same_cells}
 
 pub loop-c-init : goal.loop-c-init
 loop-c-init c = (search rules, below_none _)
@@ -20,7 +20,7 @@ same_cells-requires c =
     let the-args = c.args in
     let loop· = c.loop-c in
     let pre· = c.requires in
-    lent_long the-args.working.now loop·.c pre·.0.1 (omega arith) ∙ sym (lent_long the-args.committed.now loop·.c pre·.0.0
+    lent_long the-args.working.now loop·.c pre·.committed_len.1 (omega arith) ∙ sym (lent_long the-args.committed.now loop·.c pre·.committed_len.0
     (omega arith))
 
 pub returns-then-not-same_cells : goal.returns-then-not-same_cells
@@ -34,16 +34,16 @@ pub bounds-slots-i : goal.bounds-slots-i
 bounds-slots-i c = search rules
 
 pub offset_bounds-slots-i : goal.offset_bounds-slots-i
-offset_bounds-slots-i c = let h = array-copy-out-v c in search rules
+offset_bounds-slots-i c = let h = bounds-slots-i c in search rules
 
 pub head_ok-requires : goal.head_ok-requires
 head_ok-requires c =
     let the-args = c.args in
     let loop· = c.loop-c in
     let pre· = c.requires in (
-      lent_long the-args.committed.now loop·.c pre·.0.0 (omega arith),
-      lent_long the-args.working.now loop·.c pre·.0.1 (omega arith),
-      pre·.1 loop·.c (omega arith) c.if-heads-c-ge-SLOT_LIMIT.false,
+      lent_long the-args.committed.now loop·.c pre·.committed_len.0 (omega arith),
+      lent_long the-args.working.now loop·.c pre·.committed_len.1 (omega arith),
+      pre·.heads_hold loop·.c (omega arith) c.if-heads-c-ge-SLOT_LIMIT.false,
     )
 
 pub returns-then-not-head_ok : goal.returns-then-not-head_ok
@@ -61,10 +61,7 @@ loop-c-preserved c =
     let base = the-args.committed.now in
     let wrk = the-args.working.now in (
       search rules,
-      below_more _ _ loop·.invariant.1 (⊎_elim
-          (λ t. (at_empty the-args.slots head loop·.c base wrk _ t.0.taken t.3.ensures).yes (not-false _ t.4.left))
-          (λ t. (at_head the-args.slots head loop·.c base wrk _ t.0.left t.4.ensures).yes (not-false _ t.5.left))
-          c.if-heads-c-ge-SLOT_LIMIT.branch),
+      below_more _ _ loop·.invariant.1 (elim c.if-heads-c-ge-SLOT_LIMIT.branch [ then-heads-c-ge-SLOT_LIMIT+else-not-same_cells t ↦ (at_empty the-args.slots head loop·.c base wrk _ t.if-heads-c-ge-SLOT_LIMIT.true t.same_cells.ensures).yes t.if-not-same_cells.false | else-heads-c-ge-SLOT_LIMIT+else-not-head_ok t ↦ (at_head the-args.slots head loop·.c base wrk _ t.if-heads-c-ge-SLOT_LIMIT.false t.head_ok.ensures).yes t.if-not-head_ok.false ]),
     )
 
 pub returns : goal.returns

@@ -24,7 +24,7 @@ loop-i-preserved c =
     let o· = loop·.o in (
       search rules,
       decides_more (λ k. ((slot_at l· k ≡ slot_free) ⊎ Holds (slot_at l· k)) × ((slot_at l· k).backs ≤ the-args.top)) loop·.i loop·.invariant.1
-          (decides_both c.Slot-ok.ensures (decides_le (slot_at l· loop·.i).backs the-args.top)),
+          (decides_both c.slot_ok.ensures (decides_le (slot_at l· loop·.i).backs the-args.top)),
       owned_more l· o·.ids o·.classes loop·.i loop·.invariant.2 (omega arith),
     )
 

@@ -13,10 +13,10 @@ decreases-loop-at l = slot_count - l.at
 
 -- whatever the slots are
 abbrev pub invariant-loop-p : goal.invariant-loop-p
-invariant-loop-p l =
-    (l.p ≤ query_count)
-    × ((l : List Slot) → StageTo l l.table l.initial.g.lines l.initial.g.dones l.initial.g.marks l.initial.g.dues 128 128
-    → StageTo l l.table l.g.lines l.g.dones l.g.marks l.g.dues 128 (128 + l.p))
+invariant-loop-p state =
+    (state.p ≤ query_count)
+    × ((l : List Slot) → StageTo l state.table state.initial.g.lines state.initial.g.dones state.initial.g.marks state.initial.g.dues 128 128
+    → StageTo l state.table state.g.lines state.g.dones state.g.marks state.g.dues 128 (128 + state.p))
 
 abbrev pub decreases-loop-p : goal.decreases-loop-p
 decreases-loop-p l = query_count - l.p

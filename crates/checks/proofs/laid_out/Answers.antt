@@ -8,6 +8,7 @@ use borrow.Author.Rules.{rules}
 use Rattle.plain.specs.Sizes.{class_count}
 use Rattle.store.proofs.Cells.{HeadsTo, heads_none, heads_past, heads_more}
 use Rattle.checks.proofs.laid_out.Goals as goal
+use Rattle.checks.proofs.laid_out.Goals.{then-lens-c-ne0, else-lens-c-ne0}
 
 pub agree-ok-requires : goal.agree-ok-requires
 agree-ok-requires c =
@@ -24,10 +25,10 @@ loop-c-preserved c =
     let l : loop·.c < class_count = omega arith in
     let more : List ℕ → Type 0 = λ hs. HeadsTo the-args.queue the-args.lens hs (loop·.c + 1) in (
       search rules,
-      ⊎_elim
-          (λ t. subst more (sym t.1) (heads_more the-args.queue the-args.lens loop·.hs loop·.c l loop·.invariant.1 t.0.taken))
-          (λ t. subst more (sym t.1) (heads_past the-args.queue the-args.lens loop·.hs loop·.c l loop·.invariant.1 t.0.left))
-          c.if-lens-c-ne0.branch,
+      elim c.if-lens-c-ne0.branch [
+        | then-lens-c-ne0 w ↦ subst more (sym w.hs-is) (heads_more the-args.queue the-args.lens loop·.hs loop·.c l loop·.invariant.1 w.if-lens-c-ne0.true)
+        | else-lens-c-ne0 w ↦ subst more (sym w.hs-is) (heads_past the-args.queue the-args.lens loop·.hs loop·.c l loop·.invariant.1 w.if-lens-c-ne0.false)
+      ],
     )
 
 pub returns : goal.returns

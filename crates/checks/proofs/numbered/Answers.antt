@@ -8,6 +8,7 @@ use Rattle.plain.specs.Sizes.{slot_count}
 use Rattle.store.specs.Checks.{nth}
 use Rattle.store.proofs.Tally.{one_numbered, not_numbered, none_numbered}
 use Rattle.checks.proofs.numbered.Goals as goal
+use Rattle.checks.proofs.numbered.Goals.{else-lines-s-ne0, then-lines-s-ne0}
 
 pub loop-s-init : goal.loop-s-init
 loop-s-init c = (search rules, search rules, none_numbered _)
@@ -18,11 +19,8 @@ loop-s-preserved c =
     let numbers· = nth c.args.lines.now in
     let s· = c.loop-s.s in (
       search rules,
-      ⊎_elim (λ w. omega (arith, w.1)) (λ w. omega (arith, w.1)) if1·.branch,
-      ⊎_elim
-          (λ w. omega (arith, w.1, one_numbered numbers· s· w.0.taken))
-          (λ w. omega (arith, w.1, not_numbered numbers· s· w.0.left))
-          if1·.branch,
+      elim if1·.branch [ then-lines-s-ne0 w ↦ omega (arith, w.n-is) | else-lines-s-ne0 w ↦ omega (arith, w.n-is) ],
+      elim if1·.branch [ then-lines-s-ne0 w ↦ omega (arith, w.n-is, one_numbered numbers· s· w.if-lines-s-ne0.true) | else-lines-s-ne0 w ↦ omega (arith, w.n-is, not_numbered numbers· s· w.if-lines-s-ne0.false) ],
     )
 
 pub returns : goal.returns

@@ -9,6 +9,7 @@ use Rattle.plain.proofs.Deciding.{decides_true, decides_false}
 use Rattle.store.specs.Checks.{nth}
 use Rattle.store.proofs.Pairs.{in_more, out_more, all_passed}
 use Rattle.checks.proofs.pairs_differ.Goals as goal
+use Rattle.checks.proofs.pairs_differ.Goals.{else-id-eq0, else-number-lines, then-id-eq0, then-number-lines+else-number-ne0}
 
 pub pairs-init : goal.pairs-init
 pairs-init c = (search rules, below_none _, below_none _)
@@ -16,11 +17,11 @@ pairs-init c = (search rules, below_none _, below_none _)
 pub loop-j-init : goal.loop-j-init
 loop-j-init c =
     let if2· = c.if-id-eq0 in (
-      ⊎_elim (λ w. omega (arith, w.1)) (λ w. omega (arith, w.1)) if2·.branch,
-      ⊎_elim (λ w. omega (arith, w.1)) (λ w. omega (arith, w.1)) if2·.branch,
-      (λ l z. ⊎_elim (λ w. omega (arith, w.1)) (λ w. w.0.left z) if2·.branch),
-      (λ b l m e. ⊎_elim (λ w. w.0.taken) (λ w. absurd (omega (arith, w.1))) if2·.branch),
-      (λ b l m e. ⊎_elim (λ w. c.requires _ (omega arith) w.0.taken) (λ w. absurd (omega (arith, w.1))) if2·.branch),
+      elim if2·.branch [ then-id-eq0 w ↦ omega (arith, w.j-is) | else-id-eq0 w ↦ omega (arith, w.j-is) ],
+      elim if2·.branch [ then-id-eq0 w ↦ omega (arith, w.j-is) | else-id-eq0 w ↦ omega (arith, w.j-is) ],
+      (λ l z. elim if2·.branch [ then-id-eq0 w ↦ omega (arith, w.j-is) | else-id-eq0 w ↦ w.if-id-eq0.false z ]),
+      (λ b l m e. elim if2·.branch [ then-id-eq0 w ↦ w.if-id-eq0.true | else-id-eq0 w ↦ absurd (omega (arith, w.j-is)) ]),
+      (λ b l m e. elim if2·.branch [ then-id-eq0 w ↦ c.requires _ (omega arith) w.if-id-eq0.true | else-id-eq0 w ↦ absurd (omega (arith, w.j-is)) ]),
     )
 
 pub loop-j-preserved : goal.loop-j-preserved
@@ -32,7 +33,7 @@ loop-j-preserved c =
       omega arith,
       (λ _. used·),
       in_more (nth the-args.ids.now) _ _ inv·.3 (λ e. absurd (c.if-id-ids.false e)),
-      in_more (nth the-args.lines.now) _ _ inv·.4 (⊎_elim (λ w _. w.1.left) (λ w e. absurd (w.left e)) c.if-number-lines.branch),
+      in_more (nth the-args.lines.now) _ _ inv·.4 (elim c.if-number-lines.branch [ then-number-lines+else-number-ne0 w ↦ λ _. w.if-number-ne0.false | else-number-lines w ↦ λ e. absurd (w.if-number-lines.false e) ]),
     )
 
 pub pairs-preserved : goal.pairs-preserved

@@ -5,11 +5,11 @@ use mathlib.Core.Path.{◌≡◌}
 use mathlib.Core.Logic.{⊎_elim}
 use borrow.Author.Count.{below_none, below_more}
 use borrow.Author.Rules.{rules}
-use borrow.Author.Tests.{not-false}
 use Rattle.plain.specs.Sizes.{most_queued}
 use Rattle.plain.proofs.Deciding.{decides_true, decides_false}
 use Rattle.store.specs.Checks.{nth}
 use Rattle.checks.proofs.queue_ok.Goals as goal
+use Rattle.checks.proofs.queue_ok.Goals.{else-p-gt0, then-p-gt0+else-not-behind}
 
 pub loop-p-init : goal.loop-p-init
 loop-p-init c = (search rules, below_none _)
@@ -62,7 +62,7 @@ loop-p-preserved c = (
   search rules,
   below_more _ _ c.loop-p.invariant.1 (record {
     given = c.if-confirmations-line.false;
-    follows = λ z. ⊎_elim (λ w. w.5.ensures.yes (not-false _ w.6.left)) (λ w. absurd (omega (arith, w.left))) c.if-p-gt0.branch;
+    follows = λ z. elim c.if-p-gt0.branch [ then-p-gt0+else-not-behind w ↦ w.behind.ensures.yes w.if-not-behind.false | else-p-gt0 w ↦ absurd (omega (arith, w.if-p-gt0.false)) ];
   }),
 )
 

@@ -5,10 +5,10 @@ use mathlib.Core.Logic.{⊎_elim}
 use mathlib.Core.Bool.{true}
 use borrow.Author.Count.{below_none, below_more}
 use borrow.Author.Rules.{rules}
-use borrow.Author.Tests.{not-false}
 use Rattle.plain.proofs.Deciding.{decides_true, decides_false}
 use Rattle.kept.proofs.Places.{some_id, no_id}
 use Rattle.kept.proofs.all_match.Goals as goal
+use Rattle.kept.proofs.all_match.Goals.{else-id-ne0, then-id-ne0+else-not-matches}
 
 pub loop-i-init : goal.loop-i-init
 loop-i-init c = (search rules, below_none _)
@@ -23,10 +23,7 @@ returns-then-not-matches c = decides_false (λ h. c.matches.ensures.no c.if-not-
 pub loop-i-preserved : goal.loop-i-preserved
 loop-i-preserved c = (
   search rules,
-  below_more _ _ c.loop-i.invariant.1 (⊎_elim
-      (λ w _. w.2.ensures.yes (not-false _ w.3.left))
-      (λ w u. absurd (no_id _ w.left u))
-      c.if-id-ne0.branch),
+  below_more _ _ c.loop-i.invariant.1 (elim c.if-id-ne0.branch [ then-id-ne0+else-not-matches w ↦ λ _. w.matches.ensures.yes w.if-not-matches.false | else-id-ne0 w ↦ λ u. absurd (no_id _ w.if-id-ne0.false u) ]),
 )
 
 pub returns : goal.returns

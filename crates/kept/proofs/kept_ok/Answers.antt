@@ -1,5 +1,4 @@
 -- Each part decides its rules. Assumes nothing.
-use borrow.Author.Tests.{not-false}
 use Rattle.plain.proofs.Deciding.{decides_false, decides_as}
 use Rattle.kept.proofs.kept_ok.Goals as goal
 
@@ -12,7 +11,7 @@ returns-then-not-marked c = decides_false (λ h. c.mark-marked.ensures.decides.n
 pub all_match-requires : goal.all_match-requires
 all_match-requires c =
     let mark· = c.mark-marked in
-    let differ = not-false _ c.if-not-marked.false in
+    let differ = c.if-not-marked.false in
     (mark·.ensures.marks differ, c.filled.ensures.yes c.if-not-filled.false, mark·.ensures.decides.yes differ)
 
 pub returns : goal.returns

@@ -4,7 +4,7 @@ use native.Mathlib.Omega.{arith}
 use mathlib.Core.Path.{◌≡◌, refl}
 use mathlib.Core.Bool.{true}
 use borrow.Author.Rules.{rules}
-use borrow.Author.Tests.{not-false}
+use borrow.Author.Tests.{not-false, not-true}
 use Rattle.plain.proofs.Tests.{no}
 use Rattle.store.specs.Checks.{flag_of, may_stand, nth}
 use Rattle.store.proofs.Taking.{none_taken, one_taken, too_often}
@@ -19,7 +19,7 @@ returns-then-not-u c =
     let pre· = c.requires in
     let loop· = c.loop-p in
     record {
-      all_taken = λ t. no _ t c.if-not-u.true;
+      all_taken = λ t. no _ t (not-true _ c.if-not-u.true);
       one_barred = λ f. too_often (may_stand (flag_of the-args.all.lo the-args.all.hi)
           (nth the-args.classes.now) the-args.all.table) the-args.queue.now pre·.2 the-args.c pre·.0 (may_stand (flag_of loop·.u.lo
           loop·.u.hi) (nth the-args.classes.now) loop·.u.table) loop·.p (omega arith) loop·.invariant.2 the-args.len c.loop-p-test.true

@@ -2,6 +2,7 @@
 use Prim.Native.Nat.{◌-◌}
 use native.Mathlib.Omega.{arith}
 use borrow.Author.Rules.{rules}
+use borrow.Author.Tests.{not-true, not-false}
 use Rattle.plain.proofs.Deciding.{decides_false, decides_as}
 use Rattle.store.specs.Checks.{flag_of, may_stand, nth}
 use Rattle.store.proofs.Taking.{none_seen, one_seen, not_once, spent, once_of, nothing_left, all_free, all_read}
@@ -24,7 +25,7 @@ returns-then-not-u c =
     let loop· = c.loop-c in
     decides_false (not_once (may_stand (flag_of the-args.low the-args.high) (nth the-args.classes.now) the-args.table) the-args.queue.now
     the-args.lens.now (may_stand (flag_of loop·.u.lo loop·.u.hi) (nth the-args.classes.now) loop·.u.table) loop·.c
-    c.loop-c-test.true loop·.invariant.1 (c.class_once-u.ensures.one_barred c.if-not-u.true))
+    c.loop-c-test.true loop·.invariant.1 (c.class_once-u.ensures.one_barred (not-true _ c.if-not-u.true)))
 
 pub loop-c-preserved : goal.loop-c-preserved
 loop-c-preserved c =
@@ -33,7 +34,7 @@ loop-c-preserved c =
       search rules,
       one_seen (may_stand (flag_of the-args.low the-args.high) (nth the-args.classes.now) the-args.table) the-args.queue.now
           the-args.lens.now (may_stand (flag_of loop·.u.lo loop·.u.hi) (nth the-args.classes.now) loop·.u.table) loop·.c
-          c.loop-c-test.true loop·.invariant.1 _ (c.class_once-u.ensures.all_taken c.if-not-u.false),
+          c.loop-c-test.true loop·.invariant.1 _ (c.class_once-u.ensures.all_taken (not-false _ c.if-not-u.false)),
     )
 
 pub returns-then-u-ne0 : goal.returns-then-u-ne0

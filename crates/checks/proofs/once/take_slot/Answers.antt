@@ -1,6 +1,5 @@
 -- The slot's class and its mark decide whether it may stand there. Assumes nothing.
 use mathlib.Core.Path.{refl, sym, ◌∙◌}
-use borrow.Author.Tests.{not-true, not-false}
 use Rattle.plain.proofs.Tests.{no}
 use Rattle.store.specs.Checks.{nth}
 use Rattle.store.proofs.Taking.{slot_taken, other_class, not_used}
@@ -21,7 +20,7 @@ returns-then-not-is_used c =
     record {
       taken = λ t. no _ t refl;
       barred = λ _. not_used the-args.u.lo the-args.u.hi (nth the-args.classes.now) the-args.u.table the-args.c
-          the-args.b c.requires (sym c.is_used.ensures ∙ not-true _ c.if-not-is_used.true);
+          the-args.b c.requires (sym c.is_used.ensures ∙ c.if-not-is_used.true);
     }
 
 pub returns : goal.returns
@@ -29,7 +28,7 @@ returns c =
     let the-args = c.args in
     record {
       taken = λ _. slot_taken the-args.u.lo the-args.u.hi (nth the-args.classes.now) the-args.u.table the-args.c the-args.b c.requires _ _
-          c.if-classes-i.false (sym c.is_used.ensures ∙ not-false _ c.if-not-is_used.false) c.with_free-rest.ensures;
+          c.if-classes-i.false (sym c.is_used.ensures ∙ c.if-not-is_used.false) c.with_free-rest.ensures;
       barred = λ f. no _ refl
           f;
     }
