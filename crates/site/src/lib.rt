@@ -29,7 +29,7 @@ const CLASSES: u64 = 16;
 const CELLS: u64 = 64;
 
 #[repr(C)]
-#[derive(Drop)]
+#[derive(Clone, Copy)]
 pub struct Site {
     pub slots: [Slot; 128],
     pub queue: [u8; 2176],
@@ -45,7 +45,7 @@ pub struct Site {
 }
 
 // What a call answers; document 01's number and values for each case are in specs/Held.
-#[derive(Drop)]
+#[derive(Clone, Copy)]
 pub enum Answer {
     Refused(u8),
     Queued {

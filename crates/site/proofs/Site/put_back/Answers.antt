@@ -1,0 +1,36 @@
+-- `Site::put_back` meets its contract: the head's slot is stored and its class's cells are copied. Assumes nothing.
+use mathlib.Core.Path.{ap, ◌∙◌}
+use native.Mathlib.Omega.{arith}
+use Rattle.site.specs.Held.{store}
+use Rattle.store.specs.Steps.{with_slot, head_slot}
+use Rattle.store.proofs.Commit.{copied, uncopied}
+use Rattle.site.proofs.Site.put_back.Goals as goal
+
+pub offset_bounds-self-i : goal.offset_bounds-self-i
+offset_bounds-self-i c = record { fits = omega (arith, c.requires.request) }
+
+pub bounds-self-i : goal.bounds-self-i
+bounds-self-i c = c.requires.request
+
+pub backed-requires : goal.backed-requires
+backed-requires c = c.requires.fits
+
+pub offset_bounds-self-i-2 : goal.offset_bounds-self-i-2
+offset_bounds-self-i-2 c = record { fits = omega (arith, c.requires.request) }
+
+pub bounds-self-i-2 : goal.bounds-self-i-2
+bounds-self-i-2 c = c.requires.request
+
+pub returns : goal.returns
+returns c =
+    let the-args = c.args in
+    let copy-class· = c.copy_class in
+    let pre· = c.requires in
+    record {
+      is = ap (with_slot (store the-args.self) (head_slot (store the-args.self) the-args.c)) c.backed.ensures;
+      cells = copy-class·.auto.0 ∙ pre·.cells.1;
+      own = copied the-args.working.now the-args.committed.now copy-class·.new.0 the-args.c pre·.class pre·.cells.1 pre·.cells.0
+          copy-class·.ensures;
+      others = uncopied the-args.working.now the-args.committed.now copy-class·.new.0 the-args.c pre·.class pre·.cells.1
+          pre·.cells.0 copy-class·.ensures;
+    }

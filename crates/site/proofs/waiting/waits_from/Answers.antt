@@ -1,0 +1,34 @@
+-- Each place passed is an entry of a query, or names a request with a number. Assumes nothing.
+use borrow.Author.Rules.{rules}
+use Prim.Native.Nat.{◌-◌}
+use native.Mathlib.Omega.{arith}
+use mathlib.Core.Logic.{◌⊎◌, inl, inr, ⊎_elim}
+use borrow.Author.Count.{below_none, below_more}
+use Rattle.site.proofs.waiting.waits_from.Goals as goal
+
+pub loop-p-init : goal.loop-p-init
+loop-p-init c = (omega arith, below_none _)
+
+pub returns-then-numbers-b-eq0 : goal.returns-then-numbers-b-eq0
+returns-then-numbers-b-eq0 c =
+    record {
+      within = omega arith;
+      before = c.loop-p.invariant.1;
+      waits = λ l. (
+        omega (arith, c.if-b-lt-SLOT_LIMIT.true),
+        omega
+            (arith, c.if-numbers-b-eq0.true),
+      );
+    }
+
+pub loop-p-preserved : goal.loop-p-preserved
+loop-p-preserved c = (
+  search rules,
+  below_more _ _ c.loop-p.invariant.1 (⊎_elim (λ z. inr (omega (arith, z.2.left))) (λ z. inl (omega (arith, z.left)))
+      c.if-b-lt-SLOT_LIMIT.branch),
+)
+
+pub returns : goal.returns
+returns c =
+    let loop· = c.loop-p in
+    record { within = loop·.invariant.0; before = loop·.invariant.1; waits = λ l. absurd (omega (arith, c.loop-p-test.false)) }
