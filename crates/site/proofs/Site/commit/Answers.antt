@@ -60,13 +60,13 @@ returns c =
           commit_laid s _ w pre·.laid k i ps pre·.class head (rw free-slot·.ensures) refl take-head·.ensures.own
           take-head·.ensures.others with-free·.ensures pre·.request refl refl refl;
       slots = length-set s.slots i _;
-      cells = copy-class·.auto.0 ∙ pre·.cells.0;
+      cells = copy-class·.auto.to ∙ pre·.cells.0;
       site =
           λ e. commit_means s _ w pre·.laid k i ps pre·.class head (rw free-slot·.ensures) refl take-head·.ensures.own
           take-head·.ensures.others with-free·.ensures pre·.request refl refl refl
-          base wrk copy-class·.new.0
-          (copied base wrk copy-class·.new.0 k pre·.class pre·.cells.0 pre·.cells.1 copy-class·.ensures)
-          (uncopied base wrk copy-class·.new.0 k pre·.class pre·.cells.0 pre·.cells.1 copy-class·.ensures) e refl refl;
+          base wrk copy-class·.new.to
+          (copied base wrk copy-class·.new.to k pre·.class pre·.cells.0 pre·.cells.1 copy-class·.ensures)
+          (uncopied base wrk copy-class·.new.to k pre·.class pre·.cells.0 pre·.cells.1 copy-class·.ensures) e refl refl;
       queries = refl;
       sums = refl;
     }

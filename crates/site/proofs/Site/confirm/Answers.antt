@@ -48,13 +48,10 @@ first_waiting-to-requires c =
 
 pub confirm_later-requires : goal.confirm_later-requires
 confirm_later-requires c =
-    let j· = c.judge_confirm-found.ensures.act c.if-found-ne0.false in (
-      (j·.ready, c.head_done.ensures.no c.if-head_done.false),
-      (
-        rw j·.class at c.place_of-from.ensures,
-        rw j·.class at c.first_waiting-to.ensures,
-      ),
-    )
+    let j· = c.judge_confirm-found.ensures.act c.if-found-ne0.false in record {
+      confirmable = (j·.ready, c.head_done.ensures.no c.if-head_done.false);
+      place_of = (rw j·.class at c.place_of-from.ensures, rw j·.class at c.first_waiting-to.ensures);
+    }
 
 pub returns : goal.returns
 returns c =

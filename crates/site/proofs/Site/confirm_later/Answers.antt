@@ -7,6 +7,7 @@ use Rattle.site.proofs.Shape.{shaped}
 use Rattle.store.specs.Store.{Store}
 use Rattle.site.proofs.Confirmation.{small_class, small_sum, done_within, head_waits, may_back, sum_may_back, not_back, put_back_did, stayed_did}
 use Rattle.site.proofs.Site.confirm_later.Goals as goal
+use Rattle.site.proofs.Site.confirm_later.Goals.{else-first-i, then-first-i+else-to-eq0}
 
 pub bounds-self-c : goal.bounds-self-c
 bounds-self-c c =
@@ -21,7 +22,7 @@ overflow_sub-left c =
     let pre· = c.requires in
     let x· = state_of the-args.self the-args.committed.now the-args.working.now in
     let w· = shaped the-args.self _ c.well_formed.0 in
-    done_within x· w· the-args.i pre·.0.0 the-args.from pre·.1.0
+    done_within x· w· the-args.i pre·.confirmable.0 the-args.from pre·.place_of.0
 
 pub bounds-self-c-2 : goal.bounds-self-c-2
 bounds-self-c-2 c =
@@ -51,7 +52,7 @@ offset_bounds-self-first c =
     let pre· = c.requires in
     let x· = state_of the-args.self the-args.committed.now the-args.working.now in
     let w· = shaped the-args.self _ c.well_formed.0 in
-    let m = (head_waits x· w· the-args.i pre·.0.0 the-args.to pre·.1.1 c.if-to-eq0.true).0 in
+    let m = (head_waits x· w· the-args.i pre·.confirmable.0 the-args.to pre·.place_of.1 c.if-to-eq0.true).0 in
     record { fits = omega arith }
 
 pub bounds-self-first : goal.bounds-self-first
@@ -60,7 +61,7 @@ bounds-self-first c =
     let pre· = c.requires in
     let x· = state_of the-args.self the-args.committed.now the-args.working.now in
     let w· = shaped the-args.self _ c.well_formed.0 in
-    (head_waits x· w· the-args.i pre·.0.0 the-args.to pre·.1.1 c.if-to-eq0.true).0
+    (head_waits x· w· the-args.i pre·.confirmable.0 the-args.to pre·.place_of.1 c.if-to-eq0.true).0
 
 pub put_back-self-requires : goal.put_back-self-requires
 put_back-self-requires c =
@@ -69,9 +70,9 @@ put_back-self-requires c =
     let pre· = c.requires in
     let x· = state_of the-args.self the-args.committed.now the-args.working.now in
     let w· = shaped the-args.self _ good·.0 in
-    let back· = may_back x· w· the-args.i pre·.0.0 (omega (arith, good·.0))
-    (head_waits x· w· the-args.i pre·.0.0 the-args.to pre·.1.1 c.if-to-eq0.true).0 in
-    sum_may_back x· w· the-args.i pre·.0.0 the-args.from the-args.to pre·.1.0 pre·.1.1 _ refl back·
+    let back· = may_back x· w· the-args.i pre·.confirmable.0 (omega (arith, good·.0))
+    (head_waits x· w· the-args.i pre·.confirmable.0 the-args.to pre·.place_of.1 c.if-to-eq0.true).0 in
+    sum_may_back x· w· the-args.i pre·.confirmable.0 the-args.from the-args.to pre·.place_of.0 pre·.place_of.1 _ refl back·
 
 pub forward-self-requires : goal.forward-self-requires
 forward-self-requires c =
@@ -79,11 +80,11 @@ forward-self-requires c =
     let pre· = c.requires in
     let x· = state_of the-args.self the-args.committed.now the-args.working.now in
     let w· = shaped the-args.self _ c.well_formed.0 in (
-      pre·.0.0.small,
-      small_class x· w· the-args.i pre·.0.0,
-      not_back x· w· the-args.i pre·.0.0 the-args.from the-args.to pre·.1.0 pre·.1.1,
-      omega (arith, pre·.1.0.within, pre·.0.0.sound.laid.not_longer_than_136 _ (small_class x· w· the-args.i pre·.0.0)),
-      omega (arith, ap (λ (z : Store). z.confirmations) c.put_back-self.ensures.is, pre·.0.0.more),
+      pre·.confirmable.0.small,
+      small_class x· w· the-args.i pre·.confirmable.0,
+      not_back x· w· the-args.i pre·.confirmable.0 the-args.from the-args.to pre·.place_of.0 pre·.place_of.1,
+      omega (arith, pre·.place_of.0.within, pre·.confirmable.0.sound.laid.not_longer_than_136 _ (small_class x· w· the-args.i pre·.confirmable.0)),
+      omega (arith, ap (λ (z : Store). z.confirmations) c.put_back-self.ensures.is, pre·.confirmable.0.more),
     )
 
 pub overflow_cast-result : goal.overflow_cast-result
@@ -102,7 +103,7 @@ returns-then-to-eq0 c =
     let forward· = c.forward-self in
     let x· = state_of the-args.self the-args.committed.now the-args.working.now in
     let w· = shaped the-args.self _ c.well_formed.0 in
-    put_back_did x· w· the-args.i pre·.0.0 the-args.from the-args.to pre·.1.0 pre·.1.1 _ refl c.if-first-i.true c.if-to-eq0.true
+    put_back_did x· w· the-args.i pre·.confirmable.0 the-args.from the-args.to pre·.place_of.0 pre·.place_of.1 _ refl c.if-first-i.true c.if-to-eq0.true
     (store put-back·.result) _ put-back·.ensures (store forward·.result) forward·.ensures
 
 pub forward-self-requires-2 : goal.forward-self-requires-2
@@ -111,11 +112,11 @@ forward-self-requires-2 c =
     let pre· = c.requires in
     let x· = state_of the-args.self the-args.committed.now the-args.working.now in
     let w· = shaped the-args.self _ c.well_formed.0 in (
-      pre·.0.0.small,
-      small_class x· w· the-args.i pre·.0.0,
-      not_back x· w· the-args.i pre·.0.0 the-args.from the-args.to pre·.1.0 pre·.1.1,
-      omega (arith, pre·.1.0.within, pre·.0.0.sound.laid.not_longer_than_136 _ (small_class x· w· the-args.i pre·.0.0)),
-      pre·.0.0.more,
+      pre·.confirmable.0.small,
+      small_class x· w· the-args.i pre·.confirmable.0,
+      not_back x· w· the-args.i pre·.confirmable.0 the-args.from the-args.to pre·.place_of.0 pre·.place_of.1,
+      omega (arith, pre·.place_of.0.within, pre·.confirmable.0.sound.laid.not_longer_than_136 _ (small_class x· w· the-args.i pre·.confirmable.0)),
+      pre·.confirmable.0.more,
     )
 
 pub overflow_cast-result-2 : goal.overflow_cast-result-2
@@ -133,5 +134,5 @@ returns c =
     let forward2· = c.forward-self-2 in
     let x· = state_of the-args.self the-args.committed.now the-args.working.now in
     let w· = shaped the-args.self _ c.well_formed.0 in
-    stayed_did x· w· the-args.i pre·.0.0 the-args.from the-args.to pre·.1.0 pre·.1.1 _ refl pre·.0.1
-    (⊎_elim (λ z. inr (z.0.taken, z.1.left)) (λ z. inl z.left) c.if-first-i.branch) (store forward2·.result) forward2·.ensures
+    stayed_did x· w· the-args.i pre·.confirmable.0 the-args.from the-args.to pre·.place_of.0 pre·.place_of.1 _ refl pre·.confirmable.1
+    (elim c.if-first-i.branch [ then-first-i+else-to-eq0 z ↦ inr (z.if-first-i.true, z.if-to-eq0.false) | else-first-i z ↦ inl z.if-first-i.false ]) (store forward2·.result) forward2·.ensures

@@ -19,12 +19,12 @@ returns-then-not-sound c =
     let sound· = c.sound in record {
       open_to = λ e. absurd (omega arith);
       shut =
-          λ n k. called_unsound _ k (c.if-committed-ne-RUN.false, c.if-working-ne-RUN.false) (sound·.ensures.no (not-true sound·.result c.if-not-sound.true));
+          λ n k. called_unsound _ k (c.if-committed-ne-RUN.false, c.if-working-ne-RUN.false) (sound·.ensures.no c.if-not-sound.true);
     }
 
 pub returns : goal.returns
 returns c =
     let sound· = c.sound in record {
-      open_to = λ e. ((c.if-committed-ne-RUN.false, c.if-working-ne-RUN.false), sound·.ensures.yes (not-false sound·.result c.if-not-sound.false));
+      open_to = λ e. ((c.if-committed-ne-RUN.false, c.if-working-ne-RUN.false), sound·.ensures.yes c.if-not-sound.false);
       shut = λ n. absurd (n refl);
     }

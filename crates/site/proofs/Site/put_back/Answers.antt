@@ -28,9 +28,9 @@ returns c =
     let pre· = c.requires in
     record {
       is = ap (with_slot (store the-args.self) (head_slot (store the-args.self) the-args.c)) c.backed.ensures;
-      cells = copy-class·.auto.0 ∙ pre·.cells.1;
-      own = copied the-args.working.now the-args.committed.now copy-class·.new.0 the-args.c pre·.class pre·.cells.1 pre·.cells.0
+      cells = copy-class·.auto.to ∙ pre·.cells.1;
+      own = copied the-args.working.now the-args.committed.now copy-class·.new.to the-args.c pre·.class pre·.cells.1 pre·.cells.0
           copy-class·.ensures;
-      others = uncopied the-args.working.now the-args.committed.now copy-class·.new.0 the-args.c pre·.class pre·.cells.1
+      others = uncopied the-args.working.now the-args.committed.now copy-class·.new.to the-args.c pre·.class pre·.cells.1
           pre·.cells.0 copy-class·.ensures;
     }

@@ -19,6 +19,7 @@ use Rattle.store.proofs.Begins.{counted, start, begun_is}
 use Rattle.store.proofs.Commit.{copied, uncopied}
 use Rattle.store.proofs.Turns.{Going, Put, room_here, to_fits, sum_here, may_back, put_none, put_head, skipped, turned}
 use Rattle.site.proofs.Site.query.Goals as goal
+use Rattle.site.proofs.Site.query.Goals.{then-names, then-to-eq0+then-len-ne0, then-to-eq0+else-len-ne0, else-to-eq0, else-names}
 
 pub returns-then-no-ne0 : goal.returns-then-no-ne0
 returns-then-no-ne0 c = c.judge_query-no.ensures.refuse c.if-no-ne0.true
@@ -243,39 +244,37 @@ loop-c-preserved c =
     λ s v. Going (counted (store the-args.self)) (store s) the-args.committed.now the-args.working.now v the-args.mask c.lowest_free-p.result
     the-args.self.confirmations (loop·.c + 1) c.firsts_waiting-firsts.result in (
       omega (arith, loop-test·.true),
-      ⊎_elim
-          (λ z.
-          let here· : named the-args.mask loop·.c ≡ true = sym names·.ensures ∙ z.0.taken in
-          let Put· : Site → List ℕ → Type 0 = λ s v. Put loop·.invariant.1 l· here· (store s) v in
-          let put· : Put· z.3.self z.3.working =
-          ⊎_elim
-          (λ y. carried Put· y.10 y.9 (put_head loop·.invariant.1 l· here· y.0.taken y.1.taken _ _ (record {
-            is = ap (with_slot (store loop·.self) (head_slot (store loop·.self) loop·.c)) y.8.ensures;
-            cells = y.3.kept.0 ∙ loop·.invariant.1.cells;
-            own = copied loop·.working the-args.committed.now y.3.last.0 loop·.c l· loop·.invariant.1.cells loop·.invariant.1.right
-                y.3.ensures;
-            others = uncopied loop·.working the-args.committed.now y.3.last.0 loop·.c l· loop·.invariant.1.cells loop·.invariant.1.right
-                y.3.ensures;
-          })))
-          (⊎_elim
-          (λ y. carried Put· y.3 y.2 (put_none loop·.invariant.1 l· here· (inr y.1.left)))
-          (λ y. carried Put· y.2 y.1 (put_none loop·.invariant.1 l· here· (inl y.0.left))))
-          z.3.came in
-          carried Next· z.9 z.8 (turned loop·.invariant.1 l· here· (store z.3.self) z.3.working put· _ z.7.result
-          (record {
-            queue = z.5.ensures;
-            lens = refl;
-            queries = refl;
-            slots = refl;
-            map_same = (refl, refl);
-            counts =
-                (refl, refl, refl);
-            kept = refl;
-            sums = ap (λ (r : List ℕ). set z.3.self.sums loop·.c (with_entry (get_or r loop·.c 0))) (sym put·.settled.sums);
-          })
-          z.7.ensures.0 (z.7.ensures.1 ∙ put·.settled.counts.0 ∙ loop·.invariant.1.upto.counts.0) z.7.ok.1.1.0.1))
-          (λ z. carried Next· z.2 z.1 (skipped loop·.invariant.1 (sym names·.ensures ∙ z.0.left)))
-          c.if-names.branch,
+      elim c.if-names.branch [
+        | then-names z ↦
+            let here· : named the-args.mask loop·.c ≡ true = sym names·.ensures ∙ z.if-names.true in
+            let Put· : Site → List ℕ → Type 0 = λ s v. Put loop·.invariant.1 l· here· (store s) v in
+            let put· : Put· z.if-to-eq0.self z.if-to-eq0.working = elim z.if-to-eq0.branch [
+              | then-to-eq0+then-len-ne0 y ↦ carried Put· y.self-is y.working-is (put_head loop·.invariant.1 l· here· y.if-to-eq0.true y.if-len-ne0.true _ _ (record {
+                is = ap (with_slot (store loop·.self) (head_slot (store loop·.self) loop·.c)) y.backed.ensures;
+                cells = y.copy_class.auto.to ∙ loop·.invariant.1.cells;
+                own = copied loop·.working the-args.committed.now y.copy_class.new.to loop·.c l· loop·.invariant.1.cells loop·.invariant.1.right
+                    y.copy_class.ensures;
+                others = uncopied loop·.working the-args.committed.now y.copy_class.new.to loop·.c l· loop·.invariant.1.cells loop·.invariant.1.right
+                    y.copy_class.ensures;
+              }))
+              | then-to-eq0+else-len-ne0 y ↦ carried Put· y.self-is y.working-is (put_none loop·.invariant.1 l· here· (inr y.if-len-ne0.false))
+              | else-to-eq0 y ↦ carried Put· y.self-is y.working-is (put_none loop·.invariant.1 l· here· (inl y.if-to-eq0.false))
+            ] in
+            carried Next· z.self-is z.working-is (turned loop·.invariant.1 l· here· (store z.if-to-eq0.self) z.if-to-eq0.working put· _ z.with.result
+            (record {
+              queue = z.move_forward.ensures;
+              lens = refl;
+              queries = refl;
+              slots = refl;
+              map_same = (refl, refl);
+              counts =
+                  (refl, refl, refl);
+              kept = refl;
+              sums = ap (λ (r : List ℕ). set z.if-to-eq0.self.sums loop·.c (with_entry (get_or r loop·.c 0))) (sym put·.settled.sums);
+            })
+            z.with.ensures.0 (z.with.ensures.1 ∙ put·.settled.counts.0 ∙ loop·.invariant.1.upto.counts.0) z.with.type_inv.1.1.0.1)
+        | else-names z ↦ carried Next· z.self-is z.working-is (skipped loop·.invariant.1 (sym names·.ensures ∙ z.if-names.false))
+      ],
     )
 
 pub overflow_cast-result : goal.overflow_cast-result

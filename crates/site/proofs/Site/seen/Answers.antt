@@ -10,6 +10,7 @@ use Rattle.site.specs.Held.{store}
 use Rattle.store.specs.Steps.{FirstWaiting}
 use Rattle.store.proofs.Ending.{none_before}
 use Rattle.site.proofs.Site.seen.Goals as goal
+use Rattle.site.proofs.Site.seen.Goals.{else-b-lt-SLOT_LIMIT, then-b-lt-SLOT_LIMIT+else-self-b-eq0}
 
 pub bounds-self-c : goal.bounds-self-c
 bounds-self-c c = c.requires.2
@@ -60,7 +61,7 @@ loop-from-preserved c =
       omega (arith, loop-test·.true),
       loop·.invariant.1,
       none_before (store c.args.self) _ c.requires.3 _ (omega (arith, loop-test·.true, loop·.invariant.1))
-          (⊎_elim (λ t. inr (omega arith)) (λ t. inl (omega arith)) c.if-b-lt-SLOT_LIMIT.branch),
+          (elim c.if-b-lt-SLOT_LIMIT.branch [ then-b-lt-SLOT_LIMIT+else-self-b-eq0 t ↦ inr (omega arith) | else-b-lt-SLOT_LIMIT t ↦ inl (omega arith) ]),
       loop·.invariant.3,
     )
 

@@ -12,11 +12,6 @@ returns-then-id-eq0 c = record { within = omega arith; found = λ l. absurd (ome
 pub loop-i-init : goal.loop-i-init
 loop-i-init c = (search rules, below_none _)
 
-pub overflow-cast-if3 : goal.overflow-cast-if3
-overflow-cast-if3 c =
-    let w = shaped c.args.self _ c.well_formed.0 in
-    record { fits = omega (arith, w.ids c.loop.i (omega arith)) }
-
 pub loop-i-preserved : goal.loop-i-preserved
 loop-i-preserved c = (search rules, below_more _ _ c.loop-i.invariant.1 c.if-self-i.false)
 

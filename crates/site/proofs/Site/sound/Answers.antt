@@ -1,5 +1,6 @@
 -- `Site::sound` meets its contract: each piece decides its rules, over the fields gathered into lists, and the rules together are soundness.
 -- Assumes nothing.
+use borrow.Author.Tests.{not-true, not-false}
 use Rattle.site.specs.Held.{store}
 use Rattle.site.proofs.Shape.{shaped}
 use Rattle.plain.proofs.Deciding.{decides_false, decides_as}
@@ -41,7 +42,7 @@ returns-then-not-laid c =
     let w· = shaped the-args.self _ c.well_formed.0 in
     let s· = store the-args.self in
     let g· = gathered s· c.gather_owners-o.ensures.owned c.gather_stages-g.ensures in
-    decides_false (λ h. (laid_is s· g· c.laid_out-laid.ensures.0).no c.if-not-laid.true (laid_in s· w·
+    decides_false (λ h. (laid_is s· g· c.laid_out-laid.ensures.0).no (not-true _ c.if-not-laid.true) (laid_in s· w·
     the-args.committed.now the-args.working.now h))
 
 pub cells_ok-requires : goal.cells_ok-requires
@@ -53,8 +54,8 @@ cells_ok-requires c =
     let s· = store the-args.self in
     let g· = gathered s· gather-owners·.ensures.owned c.gather_stages-g.ensures in
     let ok· = slots_ok s· _ (gather-owners·.ensures.decides.yes c.if-not-o.false) in
-    let laid· = (laid_is s· g· laid-out·.ensures.0).yes c.if-not-laid.false in
-    (c.requires, heads_hold s· w· ok·.0 laid·.short laid·.once laid-out·.result.heads laid-out·.ensures.1)
+    let laid· = (laid_is s· g· laid-out·.ensures.0).yes (not-false _ c.if-not-laid.false) in
+    record { committed_len = c.requires; heads_hold = heads_hold s· w· ok·.0 laid·.short laid·.once laid-out·.result.heads laid-out·.ensures.1 }
 
 pub returns : goal.returns
 returns c =
@@ -65,7 +66,7 @@ returns c =
     let s· = store the-args.self in
     let g· = gathered s· gather-owners·.ensures.owned c.gather_stages-g.ensures in
     let ok· = slots_ok s· _ (gather-owners·.ensures.decides.yes c.if-not-o.false) in
-    let laid· = (laid_is s· g· laid-out·.ensures.0).yes c.if-not-laid.false in
+    let laid· = (laid_is s· g· laid-out·.ensures.0).yes (not-false _ c.if-not-laid.false) in
     decides_as (λ cells. sound_from s· w· the-args.committed.now the-args.working.now ok·.0 laid· cells ((kept_is s· g·
     c.kept_ok.ensures).yes c.if-not-kept_ok.false) ok·.1) (λ h. h.working_cells_follow) (cells_is s· w· ok·.0 laid·.short
     laid·.once laid-out·.result.heads laid-out·.ensures.1 the-args.committed.now the-args.working.now c.cells_ok.ensures)

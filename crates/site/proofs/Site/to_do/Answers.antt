@@ -12,6 +12,7 @@ use Rattle.store.specs.Meaning.{len_of, queue_of}
 use Rattle.store.specs.Steps.{left_at}
 use Rattle.store.proofs.Counting.{place_held, at_most_7, takes_ops, takes_one, counts_here, counts_on, counts_end}
 use Rattle.site.proofs.Site.to_do.Goals as goal
+use Rattle.site.proofs.Site.to_do.Goals.{else-b-lt-SLOT_LIMIT, then-b-lt-SLOT_LIMIT}
 
 pub bounds-self-c : goal.bounds-self-c
 bounds-self-c c = c.requires.0.class
@@ -79,8 +80,7 @@ returns-then-i-s c =
     let the-args = c.args in
     let pre· = c.requires in
     let more· : if1·.w ≡ loop·.w + left_at the-args.self.slots (get_or the-args.self.queue (136 * the-args.c + loop·.p) 0) =
-    ⊎_elim (λ z. z.3 ∙ takes_ops the-args.self.slots (get_or the-args.self.queue (136 * the-args.c + loop·.p) 0) loop·.w z.0.taken)
-    (λ z. z.1 ∙ takes_one the-args.self.slots (get_or the-args.self.queue (136 * the-args.c + loop·.p) 0) loop·.w z.0.left) if1·.branch in
+    elim if1·.branch [ then-b-lt-SLOT_LIMIT z ↦ z.w-is ∙ takes_ops the-args.self.slots (get_or the-args.self.queue (136 * the-args.c + loop·.p) 0) loop·.w z.if-b-lt-SLOT_LIMIT.true | else-b-lt-SLOT_LIMIT z ↦ z.w-is ∙ takes_one the-args.self.slots (get_or the-args.self.queue (136 * the-args.c + loop·.p) 0) loop·.w z.if-b-lt-SLOT_LIMIT.false ] in
     omega (
       arith,
       loop·.invariant.2,
@@ -105,8 +105,7 @@ loop-p-preserved c =
     let good· = c.well_formed in
     let pre· = c.requires in
     let more· : if1·.w ≡ loop·.w + left_at the-args.self.slots (get_or the-args.self.queue (136 * the-args.c + loop·.p) 0) =
-    ⊎_elim (λ z. z.3 ∙ takes_ops the-args.self.slots (get_or the-args.self.queue (136 * the-args.c + loop·.p) 0) loop·.w z.0.taken)
-    (λ z. z.1 ∙ takes_one the-args.self.slots (get_or the-args.self.queue (136 * the-args.c + loop·.p) 0) loop·.w z.0.left) if1·.branch in (
+    elim if1·.branch [ then-b-lt-SLOT_LIMIT z ↦ z.w-is ∙ takes_ops the-args.self.slots (get_or the-args.self.queue (136 * the-args.c + loop·.p) 0) loop·.w z.if-b-lt-SLOT_LIMIT.true | else-b-lt-SLOT_LIMIT z ↦ z.w-is ∙ takes_one the-args.self.slots (get_or the-args.self.queue (136 * the-args.c + loop·.p) 0) loop·.w z.if-b-lt-SLOT_LIMIT.false ] in (
       omega (arith, loop-test·.true),
       omega (
         arith,

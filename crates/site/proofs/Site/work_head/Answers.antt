@@ -22,6 +22,7 @@ use Rattle.store.proofs.Cells.{lent_long, lent_is}
 use Rattle.store.proofs.Read.{entry_small, read_as}
 use Rattle.store.proofs.Work.{head_held, marked, work_left, stepped_as, executed_as, may_commit, committed_as}
 use Rattle.site.proofs.Site.work_head.Goals as goal
+use Rattle.site.proofs.Site.work_head.Goals.{else-commits, then-commits}
 
 -- where the ways meet, a site, committed cells and an answer that are equal to those of one way
 met : (x : State) (c : ℕ) (w : List ℕ) {a a' : Answer} {s s' : Site} {b b' : List ℕ} → s ≡ s' → b ≡ b' → a ≡ a'
@@ -122,11 +123,6 @@ offset_bounds-self-c c =
     let l = c.requires.class in
     search rules
 
-pub element-copy-out-one-smaller : goal.element-copy-out-one-smaller
-element-copy-out-one-smaller c =
-    let l = c.requires.class in
-    search rules
-
 pub offset_bounds-self-c-then-s-ge-SLOT_LIMIT : goal.offset_bounds-self-c-then-s-ge-SLOT_LIMIT
 offset_bounds-self-c-then-s-ge-SLOT_LIMIT c =
     let l = c.requires.class in
@@ -177,18 +173,6 @@ overflow_add-b c =
     let l = c.requires.class in
     search rules
 
-pub slice-bounds-step-end : goal.slice-bounds-step-end
-slice-bounds-step-end c =
-    let pre· = c.requires in
-    let l = pre·.class in
-    omega (arith, pre·.right.0)
-
-pub slice-bounds-step-end-2 : goal.slice-bounds-step-end-2
-slice-bounds-step-end-2 c =
-    let pre· = c.requires in
-    let l = pre·.class in
-    omega (arith, pre·.right.1)
-
 pub step-u-requires : goal.step-u-requires
 step-u-requires c =
     let the-args = c.args in
@@ -216,11 +200,6 @@ offset_bounds-self-c-2 c =
     let l = c.requires.class in
     search rules
 
-pub element-copy-out-one-smaller-2 : goal.element-copy-out-one-smaller-2
-element-copy-out-one-smaller-2 c =
-    let l = c.requires.class in
-    search rules
-
 pub offset_bounds-self-c-3 : goal.offset_bounds-self-c-3
 offset_bounds-self-c-3 c =
     let l = c.requires.class in
@@ -242,11 +221,11 @@ commit-self-requires c =
     let w· = shaped the-args.self _ good·.0 in
     let slot· : head_slot (store the-args.self) the-args.c < 128 = omega (arith, c.if-s-ge-SLOT_LIMIT.false) in
     may_commit x· w· pre·.right pre·.sound the-args.c pre·.class pre·.some slot· (work_left x· w· pre·.right pre·.sound the-args.c
-    pre·.class pre·.some slot· (pre·.unfinished slot·)) step·.result _ step·.auto.1.1.0 step·.ensures one-less2·.result one-less2·.ensures
+    pre·.class pre·.some slot· (pre·.unfinished slot·)) step·.result _ step·.auto.cells step·.ensures one-less2·.result one-less2·.ensures
     (c.commits.ensures.yes c.if-commits.true).1 (omega (arith, good·.0))
 
 pub shape_of-committed : goal.shape_of-committed
-shape_of-committed c = ⊎_elim (λ y. ap length y.6 ∙ y.3.kept.1.0) (λ y. ap length y.1) c.if-commits.branch
+shape_of-committed c = elim c.if-commits.branch [ then-commits y ↦ ap length y.committed-is ∙ y.commit-self.auto.committed | else-commits y ↦ ap length y.committed-is ]
 
 pub returns : goal.returns
 returns c =
@@ -260,21 +239,21 @@ returns c =
     let w· = shaped the-args.self _ c.well_formed.0 in
     let slot· : head_slot (store the-args.self) the-args.c < 128 = omega (arith, c.if-s-ge-SLOT_LIMIT.false) in
     let left· = work_left x· w· pre·.right pre·.sound the-args.c pre·.class pre·.some slot· (pre·.unfinished slot·) in
-    ⊎_elim
-    (λ y.
-    let m· = commits·.ensures.yes y.0.taken in
-    met x· the-args.c _ y.7 y.6 (worked·.ensures.committed m·.0 m·.1) (committed_as x· w· pre·.right pre·.sound the-args.c
-    pre·.class pre·.some slot· left· step·.result _ step·.auto.1.1.0 step·.ensures one-less2·.result one-less2·.ensures m·.0 m·.1 _ _ y.3.ensures))
-    (λ y. by_test (ltb step·.result.done step·.result.count)
-    (λ t.
-    let l· = ltb-true step·.result.done step·.result.count t in
-    met x· the-args.c _ y.2 y.1 (worked·.ensures.left l·) (stepped_as x· w· pre·.right pre·.sound the-args.c pre·.class pre·.some
-    slot· left· step·.result _ step·.auto.1.1.0 step·.ensures one-less2·.result one-less2·.ensures l·))
-    (λ f.
-    let g· = ltb-false step·.result.done step·.result.count f in
-    let n· : step·.result.number ≡ 0 = by_test (ltb 0 step·.result.number)
-    (λ t. absurd (commits·.ensures.no y.0.left (g·, ltb-true 0 step·.result.number t)))
-    (λ u. omega (arith, ltb-false 0 step·.result.number u)) in
-    met x· the-args.c _ y.2 y.1 (worked·.ensures.executed g· n·) (executed_as x· w· pre·.right pre·.sound the-args.c pre·.class
-    pre·.some slot· left· step·.result _ step·.auto.1.1.0 step·.ensures one-less2·.result one-less2·.ensures g· n·)))
-    c.if-commits.branch
+    elim c.if-commits.branch [
+      | then-commits y ↦
+          let m· = commits·.ensures.yes y.if-commits.true in
+          met x· the-args.c _ y.self-is y.committed-is (worked·.ensures.committed m·.0 m·.1) (committed_as x· w· pre·.right pre·.sound the-args.c
+          pre·.class pre·.some slot· left· step·.result _ step·.auto.cells step·.ensures one-less2·.result one-less2·.ensures m·.0 m·.1 _ _ y.commit-self.ensures)
+      | else-commits y ↦ by_test (ltb step·.result.done step·.result.count)
+          (λ t.
+          let l· = ltb-true step·.result.done step·.result.count t in
+          met x· the-args.c _ y.self-is y.committed-is (worked·.ensures.left l·) (stepped_as x· w· pre·.right pre·.sound the-args.c pre·.class pre·.some
+          slot· left· step·.result _ step·.auto.cells step·.ensures one-less2·.result one-less2·.ensures l·))
+          (λ f.
+          let g· = ltb-false step·.result.done step·.result.count f in
+          let n· : step·.result.number ≡ 0 = by_test (ltb 0 step·.result.number)
+          (λ t. absurd (commits·.ensures.no y.if-commits.false (g·, ltb-true 0 step·.result.number t)))
+          (λ u. omega (arith, ltb-false 0 step·.result.number u)) in
+          met x· the-args.c _ y.self-is y.committed-is (worked·.ensures.executed g· n·) (executed_as x· w· pre·.right pre·.sound the-args.c pre·.class
+          pre·.some slot· left· step·.result _ step·.auto.cells step·.ensures one-less2·.result one-less2·.ensures g· n·))
+    ]

@@ -5,6 +5,7 @@ use native.Mathlib.Omega.{arith}
 use mathlib.Core.Logic.{◌⊎◌, inl, inr, ⊎_elim}
 use borrow.Author.Count.{below_none, below_more}
 use Rattle.site.proofs.waiting.waits_from.Goals as goal
+use Rattle.site.proofs.waiting.waits_from.Goals.{else-b-lt-SLOT_LIMIT, then-b-lt-SLOT_LIMIT+else-numbers-b-eq0}
 
 pub loop-p-init : goal.loop-p-init
 loop-p-init c = (omega arith, below_none _)
@@ -24,8 +25,7 @@ returns-then-numbers-b-eq0 c =
 pub loop-p-preserved : goal.loop-p-preserved
 loop-p-preserved c = (
   search rules,
-  below_more _ _ c.loop-p.invariant.1 (⊎_elim (λ z. inr (omega (arith, z.2.left))) (λ z. inl (omega (arith, z.left)))
-      c.if-b-lt-SLOT_LIMIT.branch),
+  below_more _ _ c.loop-p.invariant.1 (elim c.if-b-lt-SLOT_LIMIT.branch [ then-b-lt-SLOT_LIMIT+else-numbers-b-eq0 z ↦ inr (omega (arith, z.if-numbers-b-eq0.false)) | else-b-lt-SLOT_LIMIT z ↦ inl (omega (arith, z.if-b-lt-SLOT_LIMIT.false)) ]),
 )
 
 pub returns : goal.returns
