@@ -1,6 +1,6 @@
 -- Behind a waiting request stand only requests offered after it, after any history from fresh: a new one enters at the end, and what moves forward is
 -- confirmed. Assumes nothing.
-use Prim.Native.Nat.{ℕ, ◌+◌, ◌<◌}
+use Prim.Native.Nat.{ℕ, ◌<◌}
 use native.Mathlib.Omega.{arith}
 use mathlib.Core.Path.{◌≡◌, refl, sym, ap, subst}
 use mathlib.Core.Bool.{Bool, true, false, cond}

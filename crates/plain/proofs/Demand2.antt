@@ -9,7 +9,6 @@ use lib.ListN.{length, take, length-append}
 use lib.Seq.{take-append_seam, take-append-le}
 use Rattle.plain.specs.Ops.{Request, run_request, run_all}
 use Rattle.plain.specs.Queue.{asked, confirmed_part}
-use Rattle.plain.specs.Steps.{committed}
 use Rattle.plain.specs.Site.{Call, fresh, zeros, call}
 use Rattle.plain.specs.Sound.{SoundSite}
 use Rattle.plain.specs.History.{after, confirmed_by, committed_by, confirmations, commits, of_class, requests}

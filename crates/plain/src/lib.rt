@@ -1,3 +1,2 @@
 // The theory only: definitions in specs/, laws in proofs/.
 #![tactic(auto)]
-

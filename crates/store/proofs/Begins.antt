@@ -1,5 +1,5 @@
 -- A query begins: what is known before its first turn, and that after its last it is the plain call. Assumes nothing.
-use Prim.Native.Nat.{ℕ, suc, ◌+◌, ◌*◌, ◌-◌, ◌<◌, ◌≤◌, ◌^◌}
+use Prim.Native.Nat.{ℕ, suc, ◌+◌, ◌*◌, ◌<◌, ◌≤◌, ◌^◌}
 use native.Mathlib.Omega.{arith}
 use native.Mathlib.Numerals.{add-one}
 use mathlib.Core.Path.{◌≡◌, refl, sym, ap, subst, ◌∙◌}
@@ -31,7 +31,7 @@ use Rattle.store.proofs.Ending.{sum_bounded}
 use Rattle.store.proofs.Meant.{to_plain}
 use Rattle.store.proofs.Moving.{Confirmed}
 use Rattle.store.proofs.Offered.{accepted_call}
-use Rattle.store.proofs.Queried.{before, upto_none, query_did}
+use Rattle.store.proofs.Queried.{upto_none, query_did}
 use Rattle.store.proofs.Walk.{place_at}
 
 -- the site with one query more counted

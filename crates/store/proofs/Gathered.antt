@@ -17,7 +17,7 @@ use Rattle.plain.proofs.Tests.{by_test}
 use Rattle.slots.specs.declared.Slot.{Slot}
 use Rattle.slots.specs.Meaning.{slot_free, no_slot, slot_at}
 use Rattle.slots.specs.Rules.{Holds}
-use Rattle.store.specs.Store.{Shaped, Store, query_at}
+use Rattle.store.specs.Store.{Store, query_at}
 use Rattle.queries.specs.declared.Query.{Query}
 use Rattle.queries.specs.Table.{free_query}
 use Rattle.store.specs.Sound.{Apart, BacksOk, SlotsOk}

@@ -1,5 +1,5 @@
 -- Laws of lists, over any element type, and of how often a number stands in a list. Assumes nothing.
-use Prim.Native.Nat.{ℕ, zero, suc, ◌+◌, ◌*◌, ◌-◌, ◌<◌}
+use Prim.Native.Nat.{ℕ, zero, suc, ◌+◌, ◌*◌, ◌<◌}
 use native.Mathlib.Omega.{arith}
 use native.Mathlib.Nat.{mul-zero, mul-suc}
 use mathlib.Core.Path.{◌≡◌, refl, sym, ◌∙◌}

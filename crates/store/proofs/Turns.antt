@@ -1,5 +1,5 @@
 -- A query goes from class to class: what is known of each class before, and what each turn leaves. Assumes nothing.
-use Prim.Native.Nat.{ℕ, zero, suc, ◌+◌, ◌-◌, ◌<◌, ◌≤◌, ◌^◌}
+use Prim.Native.Nat.{ℕ, zero, suc, ◌+◌, ◌<◌, ◌≤◌, ◌^◌}
 use native.Mathlib.Omega.{arith}
 use native.Mathlib.Numerals.{add-one}
 use mathlib.Core.Path.{◌≡◌, refl, sym, ap, ◌∙◌, subst}
@@ -12,7 +12,7 @@ use lib.Seq.{get_or-set_same, get_or-set_other}
 use borrow.Author.Tests.{le-ltb, ltb-true, ltb-false}
 use Rattle.plain.specs.Sizes.{most_w}
 use Rattle.plain.specs.Queue.{Item, booking, reading, is_confirmed}
-use Rattle.plain.specs.Steps.{Class, backed, begun}
+use Rattle.plain.specs.Steps.{Class, backed}
 use Rattle.plain.specs.Site.{named}
 use Rattle.plain.specs.Sound.{All, Waiting}
 use Rattle.plain.proofs.Tests.{by_test}

@@ -16,7 +16,6 @@ use Rattle.plain.specs.Queue as Q
 use Rattle.plain.specs.Steps as K
 use Rattle.plain.specs.Site as S
 use Rattle.cells.specs.Ops.{no_op, op_of}
-use Rattle.cells.specs.declared.Op.{Op}
 use Rattle.places.proofs.Parts.{put_apart, put_own}
 use Rattle.plain.proofs.Tests.{by_test}
 use Rattle.plain.specs.Sound.{Head}

@@ -1,5 +1,5 @@
 -- What the steps do to the arrays and to a slot. Assumes nothing.
-use Rattle.std.specs.Prelude.{ℕ, ◌+◌, ◌*◌, ◌-◌, ◌%◌, ◌<◌, ◌≤◌, ◌≡◌, ◌⊎◌, cond, List, map, ltb, length, get_or, drop, set}
+use Rattle.std.specs.Prelude.{ℕ, ◌+◌, ◌*◌, ◌-◌, ◌%◌, ◌<◌, ◌≤◌, ◌≡◌, ◌⊎◌, cond, List, ltb, length, get_or, drop, set}
 use Rattle.std.proofs.Math.Option.{none}
 use Rattle.slots.specs.Steps.{tried_by}
 use Rattle.places.specs.Moves.{Moved}

@@ -1,5 +1,5 @@
 -- After i turns the first i cells are the copied ones. Assumes nothing.
-use Rattle.std.proofs.Common.{◌≡◌, ℕ, ◌+◌, ◌-◌, ◌<◌, ◌≤◌, List, length, get_or, take, set, sym, ◌∙◌, add-one, take_all, take-suc, take-suc-set, rules}
+use Rattle.std.proofs.Common.{◌≡◌, ℕ, ◌+◌, ◌<◌, ◌≤◌, List, length, get_or, take, set, sym, ◌∙◌, add-one, take_all, take-suc, take-suc-set, rules}
 use Rattle.cells.proofs.copy_cells.Goals as goal
 
 -- a turn's store

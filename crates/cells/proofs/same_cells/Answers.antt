@@ -1,5 +1,5 @@
 -- After i turns the test decides that the first i cells are the same. Assumes nothing.
-use Rattle.std.proofs.Common.{ℕ, ◌-◌, List, get_or, ap, arith, ext_get_or, rules, below_none}
+use Rattle.std.proofs.Common.{ℕ, List, get_or, ap, arith, ext_get_or, rules, below_none}
 use Rattle.plain.proofs.Deciding.{decides_true, decides_as, decides_eq, decides_more}
 use Rattle.cells.proofs.same_cells.Goals as goal
 

@@ -1,9 +1,7 @@
 -- Each turn decides the rule of its class: where the queue is empty, that the cells are equal, and else that of its head, which holds a record.
 -- Assumes nothing.
-use Prim.Native.Nat.{◌-◌}
 use native.Mathlib.Omega.{arith}
 use mathlib.Core.Path.{sym, ◌∙◌}
-use mathlib.Core.Logic.{⊎_elim}
 use borrow.Author.Count.{below_none, below_more}
 use borrow.Author.Rules.{rules}
 use Rattle.plain.proofs.Deciding.{decides_true, decides_false}

@@ -1,5 +1,5 @@
 -- Each turn gathers one slot; then each the line of one query. Assumes nothing.
-use Prim.Native.Nat.{◌+◌, ◌-◌}
+use Prim.Native.Nat.{◌+◌}
 use native.Mathlib.Omega.{arith}
 use mathlib.Core.Path.{◌≡◌, refl}
 use lib.ListN.{length}

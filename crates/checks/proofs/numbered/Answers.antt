@@ -1,8 +1,6 @@
 -- After s slots n is how many of them hold a number. Assumes nothing.
-use Prim.Native.Nat.{◌-◌}
 use native.Mathlib.Omega.{arith}
 use mathlib.Core.Path.{◌≡◌}
-use mathlib.Core.Logic.{⊎_elim}
 use borrow.Author.Rules.{rules}
 use Rattle.plain.specs.Sizes.{slot_count}
 use Rattle.store.specs.Checks.{nth}

@@ -1,8 +1,6 @@
 -- Of the pairs passed none has an id or a number in common, unless it is 0; after the last pair that is the rule, and a breach breaks it.
 -- Assumes nothing.
-use Prim.Native.Nat.{◌-◌}
 use native.Mathlib.Omega.{arith}
-use mathlib.Core.Logic.{⊎_elim}
 use borrow.Author.Count.{below_none}
 use borrow.Author.Rules.{rules}
 use Rattle.plain.proofs.Deciding.{decides_true, decides_false}

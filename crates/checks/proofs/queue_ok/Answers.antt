@@ -2,7 +2,6 @@
 use Prim.Native.Nat.{ℕ, ◌+◌, ◌-◌, ◌<◌}
 use native.Mathlib.Omega.{arith}
 use mathlib.Core.Path.{◌≡◌}
-use mathlib.Core.Logic.{⊎_elim}
 use borrow.Author.Count.{below_none, below_more}
 use borrow.Author.Rules.{rules}
 use Rattle.plain.specs.Sizes.{most_queued}

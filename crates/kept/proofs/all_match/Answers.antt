@@ -1,8 +1,5 @@
 -- Each turn decides the rule of its slot, and all 128 are looked at. Assumes nothing.
-use Prim.Native.Nat.{◌-◌}
 use native.Mathlib.Omega.{arith}
-use mathlib.Core.Logic.{⊎_elim}
-use mathlib.Core.Bool.{true}
 use borrow.Author.Count.{below_none, below_more}
 use borrow.Author.Rules.{rules}
 use Rattle.plain.proofs.Deciding.{decides_true, decides_false}

@@ -1,5 +1,4 @@
 -- Each turn decides the rule of its place, and all 256 are looked at. Assumes nothing.
-use Prim.Native.Nat.{◌-◌}
 use native.Mathlib.Omega.{arith}
 use borrow.Author.Count.{below_none, below_more}
 use borrow.Author.Rules.{rules}

@@ -1,6 +1,6 @@
 -- `places::close_up` meets its contract. At each turn what stood after `at` up to i has moved up; the last store clears the place that is left
 -- over. The measure is what is left before `end`. Assumes nothing.
-use Prim.Native.Nat.{suc, ◌-◌}
+use Prim.Native.Nat.{suc}
 use mathlib.Core.Path.{◌≡◌, sym}
 use native.Mathlib.Omega.{arith}
 use borrow.Author.Rules.{rules}

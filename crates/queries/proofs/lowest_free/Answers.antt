@@ -1,5 +1,4 @@
 -- `queries::lowest_free` meets its contract: none before the index is free. Assumes nothing.
-use Prim.Native.Nat.{◌-◌}
 use native.Mathlib.Omega.{arith}
 use borrow.Author.Tests.{eq-eqb, ne_eqb}
 use Rattle.queries.proofs.Table.{found, none_found, one_more}

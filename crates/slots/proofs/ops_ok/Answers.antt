@@ -1,9 +1,6 @@
 -- Each turn decides the rule of its place. Assumes nothing.
-use Prim.Native.Nat.{◌-◌}
 use native.Mathlib.Omega.{arith}
-use mathlib.Core.Logic.{⊎_elim}
 use borrow.Author.Rules.{rules}
-use borrow.Author.Tests.{not-false}
 use borrow.Author.Count.{below_none, below_more}
 use Rattle.plain.proofs.Deciding.{decides_true, decides_false}
 use Rattle.slots.specs.Rules.{OpAt}

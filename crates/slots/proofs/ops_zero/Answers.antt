@@ -1,5 +1,4 @@
 -- After k turns the test decides that the first k operations are zero. Assumes nothing.
-use Prim.Native.Nat.{◌-◌}
 use native.Mathlib.Omega.{arith}
 use borrow.Author.Rules.{rules}
 use borrow.Author.Count.{below_none}

@@ -1,5 +1,4 @@
 -- What the walk leaves may still stand; nothing is left exactly where the rule holds. Assumes nothing.
-use Prim.Native.Nat.{◌-◌}
 use native.Mathlib.Omega.{arith}
 use borrow.Author.Rules.{rules}
 use borrow.Author.Tests.{not-true, not-false}

@@ -1,5 +1,5 @@
 -- `Site::commit` meets its contract: the head leaves its queue, its slot is free, its class's cells are copied. Assumes nothing.
-use Prim.Native.Nat.{◌*◌, ◌-◌}
+use Prim.Native.Nat.{◌*◌}
 use mathlib.Core.Path.{refl, ◌∙◌}
 use native.Mathlib.Omega.{arith}
 use lib.ListN.{get_or, drop}

@@ -1,5 +1,5 @@
 -- `Site::confirm_later` meets its contract: the head stays, or is put back, the request moves forward, and the class's sum is W. Assumes nothing.
-use mathlib.Core.Logic.{⊎_elim, inl, inr}
+use mathlib.Core.Logic.{inl, inr}
 use mathlib.Core.Path.{ap, refl}
 use native.Mathlib.Omega.{arith}
 use Rattle.site.specs.Held.{store, state_of}

@@ -1,7 +1,6 @@
 -- `Site::door` meets its contract: each way out is one of the three cases of the calls' contract. Assumes nothing.
 use mathlib.Core.Path.{refl}
 use native.Mathlib.Omega.{arith}
-use borrow.Author.Tests.{not-true, not-false}
 use Rattle.store.proofs.Promise.{called_wrong, called_unsound}
 use Rattle.site.proofs.Site.door.Goals as goal
 

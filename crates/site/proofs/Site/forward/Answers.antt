@@ -1,6 +1,5 @@
 -- `Site::forward` meets its contract: a number, and a move among the places. Assumes nothing.
 use Rattle.store.specs.Store.{Store}
-use Prim.Native.Nat.{◌-◌}
 use mathlib.Core.Path.{ap}
 use Rattle.site.proofs.Site.forward.Goals as goal
 

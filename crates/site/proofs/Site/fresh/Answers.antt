@@ -1,5 +1,5 @@
 -- `Site::fresh` meets its contract: the empty site, and both runs cleared where they are right. Assumes nothing.
-use Prim.Native.Nat.{ℕ, ◌-◌}
+use Prim.Native.Nat.{ℕ}
 use mathlib.Core.Path.{refl, ap, ◌∙◌}
 use lib.ListN.{replicate}
 use Rattle.store.specs.Calls.{fresh}

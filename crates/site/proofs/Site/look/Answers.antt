@@ -1,6 +1,6 @@
 -- `Site::look` meets its contract: the id's slot says whether it is confirmed; what is still to do is the class's sum, or its queue says it. Assumes
 -- nothing.
-use Prim.Native.Nat.{◌-◌, ◌<◌}
+use Prim.Native.Nat.{◌<◌}
 use mathlib.Core.Path.{subst, sym, ◌∙◌}
 use native.Mathlib.Omega.{arith}
 use Rattle.store.proofs.Promise.{called_did}

@@ -1,5 +1,4 @@
 -- `Site::place_of` meets its contract: no place passed names the slot, and one of the queue does. Assumes nothing.
-use Prim.Native.Nat.{◌-◌}
 use native.Mathlib.Omega.{arith}
 use borrow.Author.Count.{below_none, below_more}
 use Rattle.site.specs.Held.{store}

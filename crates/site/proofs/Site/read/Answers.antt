@@ -1,5 +1,4 @@
 -- `Site::read` meets its contract: each way out is a row of the table, or the cell. Assumes nothing.
-use Prim.Native.Nat.{◌-◌}
 use native.Mathlib.Omega.{arith}
 use Rattle.store.proofs.Promise.{called_did}
 use Rattle.site.specs.Held.{state_of}

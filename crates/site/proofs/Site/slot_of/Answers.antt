@@ -1,9 +1,7 @@
 -- `Site::slot_of` meets its contract: no slot passed has the id. Assumes nothing.
 use borrow.Author.Rules.{rules}
-use Prim.Native.Nat.{◌-◌}
 use native.Mathlib.Omega.{arith}
 use borrow.Author.Count.{below_none, below_more}
-use Rattle.site.proofs.Shape.{shaped}
 use Rattle.site.proofs.Site.slot_of.Goals as goal
 
 pub returns-then-id-eq0 : goal.returns-then-id-eq0

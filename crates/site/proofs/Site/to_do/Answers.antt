@@ -1,7 +1,6 @@
 -- `Site::to_do` meets its contract: the sum so far and what the rest of the queue comes to are what the whole comes to. Assumes nothing.
-use Prim.Native.Nat.{ℕ, ◌+◌, ◌*◌, ◌-◌}
+use Prim.Native.Nat.{ℕ, ◌+◌, ◌*◌}
 use mathlib.Core.Path.{◌≡◌, subst, ◌∙◌}
-use mathlib.Core.Logic.{⊎_elim}
 use native.Mathlib.Omega.{arith}
 use lib.ListN.{drop, get_or}
 use Rattle.site.specs.Held.{store}

@@ -1,8 +1,7 @@
 -- Each place passed is an entry of a query, or names a request with a number. Assumes nothing.
 use borrow.Author.Rules.{rules}
-use Prim.Native.Nat.{◌-◌}
 use native.Mathlib.Omega.{arith}
-use mathlib.Core.Logic.{◌⊎◌, inl, inr, ⊎_elim}
+use mathlib.Core.Logic.{inl, inr}
 use borrow.Author.Count.{below_none, below_more}
 use Rattle.site.proofs.waiting.waits_from.Goals as goal
 use Rattle.site.proofs.waiting.waits_from.Goals.{else-b-lt-SLOT_LIMIT, then-b-lt-SLOT_LIMIT+else-numbers-b-eq0}

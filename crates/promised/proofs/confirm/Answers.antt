@@ -1,0 +1,9 @@
+-- What `site` promises of the call, in the words of the promises. Assumes nothing.
+use Rattle.site.proofs.Shape.{shaped}
+use Rattle.promised.proofs.Promised.{promised}
+use Rattle.promised.proofs.confirm.Goals as goal
+
+pub returns : goal.returns
+returns c =
+    let good = c.well_formed in
+    promised (shaped _ _ good.0) c.confirm.ensures (shaped _ _ c.confirm.type_inv.1.1.0)
