@@ -27,15 +27,30 @@ first-digit text at l d =
 pub returns-then-text-at : goal.returns-then-text-at
 returns-then-text-at c =
     let args = c.args in
-    let s : Digit args.stop → ⊥ = λ d. omega arith in record { number_at = rw (drop_of_length-le args.text.now {i = args.at} (omega arith)) (refuse _ _ s _ _ (no_text _ _ s)); next_in_bounds = search rules; ends_at = stayed _ }
+    let s : Digit args.stop → ⊥ = λ d. omega arith in
+    record {
+      number_at = rw (drop_of_length-le args.text.now {i = args.at} (omega arith)) (refuse _ _ s _ _ (no_text _ _ s));
+      next_in_bounds = search rules;
+      ends_at = stayed _;
+    }
 
 pub returns-then-first-lt-ZERO : goal.returns-then-first-lt-ZERO
 returns-then-first-lt-ZERO c =
-    let args = c.args in record { number_at = not_first args.text.now _ args.at _ _ (λ d. omega arith) (search rules) (λ d. omega arith); next_in_bounds = search rules; ends_at = stayed _ }
+    let args = c.args in
+    record {
+      number_at = not_first args.text.now _ args.at _ _ (λ d. omega arith) (search rules) (λ d. omega arith);
+      next_in_bounds = search rules;
+      ends_at = stayed _;
+    }
 
 pub returns-then-first-gt-NINE : goal.returns-then-first-gt-NINE
 returns-then-first-gt-NINE c =
-    let args = c.args in record { number_at = not_first args.text.now _ args.at _ _ (λ d. omega arith) (search rules) (λ d. omega arith); next_in_bounds = search rules; ends_at = stayed _ }
+    let args = c.args in
+    record {
+      number_at = not_first args.text.now _ args.at _ _ (λ d. omega arith) (search rules) (λ d. omega arith);
+      next_in_bounds = search rules;
+      ends_at = stayed _;
+    }
 
 pub number_from-requires : goal.number_from-requires
 number_from-requires c =

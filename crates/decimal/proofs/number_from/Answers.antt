@@ -22,21 +22,36 @@ returns-then-b-stop c =
     let args = c.args in
     let loop = c.loop-i in
     let p = behind args.text.now args.at loop.i loop.value (search rules) loop.invariant.2 in
-    let q : get_or args.text.now loop.i 0 ≡ args.stop = c.if-b-stop.true in record { number_at = accept _ _ (λ d. omega arith) _ _ _ (search rules) (rw q at p); next_in_bounds = search rules; ends_at = went_past _ _ _ _ (search rules) (search rules) loop.invariant.2 }
+    let q : get_or args.text.now loop.i 0 ≡ args.stop = c.if-b-stop.true in
+    record {
+      number_at = accept _ _ (λ d. omega arith) _ _ _ (search rules) (rw q at p);
+      next_in_bounds = search rules;
+      ends_at = went_past _ _ _ _ (search rules) (search rules) loop.invariant.2;
+    }
 
 pub returns-then-b-lt-ZERO : goal.returns-then-b-lt-ZERO
 returns-then-b-lt-ZERO c =
     let args = c.args in
     let loop = c.loop-i in
     let p = behind args.text.now args.at loop.i loop.value (search rules) loop.invariant.2 in
-    let s : Digit args.stop → ⊥ = λ d. omega arith in record { number_at = refuse _ _ s _ _ (stopped _ _ s _ _ _ _ (λ d. omega arith) c.if-b-stop.false p); next_in_bounds = search rules; ends_at = stayed _ }
+    let s : Digit args.stop → ⊥ = λ d. omega arith in
+    record {
+      number_at = refuse _ _ s _ _ (stopped _ _ s _ _ _ _ (λ d. omega arith) c.if-b-stop.false p);
+      next_in_bounds = search rules;
+      ends_at = stayed _;
+    }
 
 pub returns-then-b-gt-NINE : goal.returns-then-b-gt-NINE
 returns-then-b-gt-NINE c =
     let args = c.args in
     let loop = c.loop-i in
     let p = behind args.text.now args.at loop.i loop.value (search rules) loop.invariant.2 in
-    let s : Digit args.stop → ⊥ = λ d. omega arith in record { number_at = refuse _ _ s _ _ (stopped _ _ s _ _ _ _ (λ d. omega arith) c.if-b-stop.false p); next_in_bounds = search rules; ends_at = stayed _ }
+    let s : Digit args.stop → ⊥ = λ d. omega arith in
+    record {
+      number_at = refuse _ _ s _ _ (stopped _ _ s _ _ _ _ (λ d. omega arith) c.if-b-stop.false p);
+      next_in_bounds = search rules;
+      ends_at = stayed _;
+    }
 
 pub returns-then-value-eq0 : goal.returns-then-value-eq0
 returns-then-value-eq0 c =
@@ -44,14 +59,24 @@ returns-then-value-eq0 c =
     let loop = c.loop-i in
     let p = behind args.text.now args.at loop.i loop.value (search rules) loop.invariant.2 in
     let s : Digit args.stop → ⊥ = λ d. omega arith in
-    let z : loop.value ≡ 0 = c.if-value-eq0.true in record { number_at = refuse _ _ s _ _ (zero_first _ _ s _ _ _ (omega arith, omega arith) (rw z at p)); next_in_bounds = search rules; ends_at = stayed _ }
+    let z : loop.value ≡ 0 = c.if-value-eq0.true in
+    record {
+      number_at = refuse _ _ s _ _ (zero_first _ _ s _ _ _ (omega arith, omega arith) (rw z at p));
+      next_in_bounds = search rules;
+      ends_at = stayed _;
+    }
 
 pub returns-then-most-more : goal.returns-then-most-more
 returns-then-most-more c =
     let args = c.args in
     let loop = c.loop-i in
     let p = behind args.text.now args.at loop.i loop.value (search rules) loop.invariant.2 in
-    let s : Digit args.stop → ⊥ = λ d. omega arith in record { number_at = refuse _ _ s _ _ (too_large _ _ s _ _ _ _ (omega arith, omega arith) (omega arith) c.if-most-more.true p); next_in_bounds = search rules; ends_at = stayed _ }
+    let s : Digit args.stop → ⊥ = λ d. omega arith in
+    record {
+      number_at = refuse _ _ s _ _ (too_large _ _ s _ _ _ _ (omega arith, omega arith) (omega arith) c.if-most-more.true p);
+      next_in_bounds = search rules;
+      ends_at = stayed _;
+    }
 
 pub loop-i-preserved : goal.loop-i-preserved
 loop-i-preserved c =
@@ -66,4 +91,9 @@ returns c =
     let args = c.args in
     let loop = c.loop-i in
     let s : Digit args.stop → ⊥ = λ d. omega arith in
-    let e : drop loop.i args.text.now ≡ [] = drop_of_length-le args.text.now {i = loop.i} (omega arith) in record { number_at = refuse _ _ s _ _ (ended _ _ s _ _ (rw e at loop.invariant.2)); next_in_bounds = search rules; ends_at = stayed _ }
+    let e : drop loop.i args.text.now ≡ [] = drop_of_length-le args.text.now {i = loop.i} (omega arith) in
+    record {
+      number_at = refuse _ _ s _ _ (ended _ _ s _ _ (rw e at loop.invariant.2));
+      next_in_bounds = search rules;
+      ends_at = stayed _;
+    }

@@ -19,4 +19,9 @@ returns c =
     let decimal-call = c.decimal-k in
     let put = c.put in
     let args = c.args in
-    let e = decimal-call.ensures.digits ∙ is_decimal _ _ decimal-call.ensures.len in record { value = put.ensures.value ∙ ap (λ (t : List ℕ). args.at + length t) e; to_after = put.ensures.to_after ∙ ap (λ (t : List ℕ). take args.at args.to.now ++ t) e; to_unchanged = put.ensures.to_unchanged }
+    let e = decimal-call.ensures.digits ∙ is_decimal _ _ decimal-call.ensures.len in
+    record {
+      value = put.ensures.value ∙ ap (λ (t : List ℕ). args.at + length t) e;
+      to_after = put.ensures.to_after ∙ ap (λ (t : List ℕ). take args.at args.to.now ++ t) e;
+      to_unchanged = put.ensures.to_unchanged;
+    }

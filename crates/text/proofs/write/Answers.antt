@@ -5,15 +5,13 @@ use mathlib.Core.Bool.{Bool, true, false}
 use mathlib.Core.Option.{none-ne-some, some-injective}
 use mathlib.Core.List.{List}
 use borrow.Author.Tests.{not-true, not-false}
-use borrow.Author.Rules.{rules}
 use Rattle.plain.specs.Record.{is_record, request_in, request}
 use Rattle.slots.specs.declared.Slot.{Slot}
 use Rattle.slots.specs.Meaning.{request_of}
 use Rattle.slots.specs.Rules.{ReadInto}
 use Rattle.text.specs.Text.{text_of}
 use Rattle.text.specs.Calls.{Answer, refused, Handed, Wrote}
-use Rattle.text.proofs.write.Statement.{statement}
-use Rattle.text.proofs.write.Tie as tie
+use Rattle.text.proofs.write.Goals as goal
 
 -- bytes that are no record, and bytes that are one
 none_there : (bytes before : List ℕ) (v : Slot) (ok : Bool) → ok ≡ false → ReadInto bytes ok v → Wrote bytes before (refused 3) before
@@ -34,30 +32,17 @@ one_there bytes before after a v ok y h t e handed =
       no_record = λ q. absurd (none-ne-some (request_in bytes) (sym (rw i at q)));
     }
 
-returns : tie.Need-returns
-returns c = none_there _ _ _ _ (not-true _ c.if1.true) c.before.before.read-record.ensures.0
+pub returns-then-not-found : goal.returns-then-not-found
+returns-then-not-found c = none_there _ _ _ _ (not-true _ c.if-not-found.true) c.read_record-found.ensures.read_into
 
-put-text-requires : tie.Need-put-text-requires
-put-text-requires c κs =
-    let read-record = c.before.before.before.before.read-record in
-    (read-record.ensures.0.new (not-false _ c.before.before.if1.false)).held
+pub put_text-n-requires : goal.put_text-n-requires
+put_text-n-requires c =
+    let read-record = c.read_record-found in
+    (read-record.ensures.read_into.new (not-false _ c.if-not-found.false)).held
 
-returns-2 : tie.Need-returns-2
-returns-2 c =
-    let if1 = c.before.before.before.before.before.before.before.before.if1 in
-    let read-record = c.before.before.before.before.before.before.before.before.before.before.read-record in
-    let put-text = c.before.before.before.before.before.put-text in
-    one_there _ _ _ _ _ _ (not-false _ if1.false) read-record.ensures.0 _ put-text.ensures.1 c.before.before.hand-over.ensures
-
-pub write_spec : {M : Type 1} → statement M
-write_spec =
-    tie.close
-    (tie.spec
-    (λ c κs. search rules)
-    returns
-    put-text-requires
-    (λ c. search rules)
-    (λ c. search rules)
-    (λ c κs. search rules)
-    (λ c. search rules)
-    returns-2)
+pub returns : goal.returns
+returns c =
+    let if1 = c.if-not-found in
+    let read-record = c.read_record-found in
+    let put-text = c.put_text-n in
+    one_there _ _ _ _ _ _ (not-false _ if1.false) read-record.ensures.read_into _ put-text.ensures.to_after c.hand_over.ensures

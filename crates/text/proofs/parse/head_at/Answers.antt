@@ -11,8 +11,7 @@ use Rattle.decimal.specs.Decimal.{decimal, NumberAt}
 use Rattle.text.specs.Text.{blank, newline, head_line}
 use Rattle.text.specs.Pieces.{HeadRules, HeadAt}
 use Rattle.text.proofs.Pieces.{blank_splits, number_is, head_before}
-use Rattle.text.proofs.parse.head_at.Statement.{statement}
-use Rattle.text.proofs.parse.head_at.Tie as tie
+use Rattle.text.proofs.parse.head_at.Goals as goal
 
 -- no first line stands there
 none_there : (t rest : List ℕ) → ((i c : ℕ) (more : List ℕ) → HeadRules i c → t ≡ head_line i c ++ more → ⊥) → HeadAt t false 0 0 rest
@@ -39,47 +38,37 @@ head_there t behind rest i c b d h y z id class =
       none = λ e. no _ refl e;
     }
 
-returns : tie.Need-returns
-returns c = (none_there _ _ (λ i k more h e. no_id _ _ _ _ c.before.before.number_at.ensures.0 i k more h e (not-true _ c.if1.true)), search rules)
+pub returns-then-not-id : goal.returns-then-not-id
+returns-then-not-id c =
+    record {
+      head_at = none_there _ _ (λ i k more h e. no_id _ _ _ _ c.number_at-id.ensures.number_at i k more h e (not-true _ c.if-not-id.true));
+      next_in_bounds = search rules;
+    }
 
-returns-2 : tie.Need-returns-2
-returns-2 c =
-    let number_at = c.before.before.before.before.number_at in (
-      none_there _ _ (λ i k more h e.
-          let q = (at-id _ _ _ _ number_at.ensures.0 i k more h e (not-false _ c.before.before.if1.false)).0 in
-          omega (arith, h.id_not_zero, q, c.if2.true)),
-      search rules,
-    )
+pub returns-then-id-eq0 : goal.returns-then-id-eq0
+returns-then-id-eq0 c =
+    let number_at = c.number_at-id in record {
+      head_at = none_there _ _ (λ i k more h e.
+          let q = (at-id _ _ _ _ number_at.ensures.number_at i k more h e (not-false _ c.if-not-id.false)).0 in
+          omega (arith, h.id_not_zero, q, c.if-id-eq0.true));
+      next_in_bounds = search rules;
+    }
 
-returns-3 : tie.Need-returns-3
-returns-3 c =
-    let number_at = c.before.before.before.before.before.before.before.number_at in
-    let if1 = c.before.before.before.before.before.if1 in (
-      none_there _ _ (λ i k more h e. no-class _ _ _ _ number_at.ensures.0 i k more h e _ _ _ (not-false _ if1.false)
-          c.before.before.number-at2.ensures.0 (not-true _ c.if3.true)),
-      search rules,
-    )
+pub returns-then-not-class : goal.returns-then-not-class
+returns-then-not-class c =
+    let number_at = c.number_at-id in
+    let if1 = c.if-not-id in record {
+      head_at = none_there _ _ (λ i k more h e. no-class _ _ _ _ number_at.ensures.number_at i k more h e _ _ _ (not-false _ if1.false)
+          c.number_at-class.ensures.number_at (not-true _ c.if-not-class.true));
+      next_in_bounds = search rules;
+    }
 
-returns-4 : tie.Need-returns-4
-returns-4 c =
-    let if1 = c.before.before.before.before.before.before.before.if1 in
-    let number_at = c.before.before.before.before.before.before.before.before.before.number_at in
-    let number-at2 = c.before.before.before.before.number-at2 in (
-      head_there _ _ _ _ _ _ _ (omega arith) (not-false _ if1.false) (not-false _ c.before.before.if3.false) number_at.ensures.0 number-at2.ensures.0,
-      search rules,
-    )
-
-pub head-at-spec : {M : Type 1} → statement M
-head-at-spec =
-    tie.close
-    (tie.spec
-    (λ c. search rules)
-    (λ c κs. search rules)
-    returns
-    returns-2
-    (λ c. search rules)
-    (λ c κs. search rules)
-    returns-3
-    (λ c. search rules)
-    (λ c. search rules)
-    returns-4)
+pub returns : goal.returns
+returns c =
+    let if1 = c.if-not-id in
+    let number_at = c.number_at-id in
+    let number-at2 = c.number_at-class in
+    record {
+      head_at = head_there _ _ _ _ _ _ _ (omega arith) (not-false _ if1.false) (not-false _ c.if-not-class.false) number_at.ensures.number_at number-at2.ensures.number_at;
+      next_in_bounds = search rules;
+    }
