@@ -7,11 +7,14 @@ ghost use Rattle.text.specs.Calls.{answer_of};
 ghost use Rattle.shown.specs.Showing.{records_of, ShowsOne, Shows};
 
 use input::{fill, whole};
-use libc::{STDERR_FILENO, STDOUT_FILENO};
 use refusal::report;
 use slots::decode::RECORD;
 use std::num::wrapping_add_u64;
 use text::{Outcome, write};
+
+const STDOUT_FILENO: i32 = 1;
+
+const STDERR_FILENO: i32 = 2;
 
 // Records are read in blocks of 384: their texts fit 65,536 bytes.
 const BLOCK: usize = 24576;

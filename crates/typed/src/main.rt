@@ -10,11 +10,14 @@ ghost use Rattle.typed.specs.Bookings.{parts, Ends};
 ghost use Rattle.typed.specs.Taking.{may_go_on, TakesBlock};
 
 use input::Got;
-use libc::{STDERR_FILENO, STDOUT_FILENO};
 use refusal::report;
 use slots::decode::RECORD;
 use std::num::wrapping_add_u64;
 use text::{Outcome, read};
+
+const STDOUT_FILENO: i32 = 1;
+
+const STDERR_FILENO: i32 = 2;
 
 // The records of a block's bookings fit 65,536 bytes, and a block has room for more than a booking.
 const BLOCK: usize = 1024;
