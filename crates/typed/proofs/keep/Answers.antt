@@ -1,7 +1,6 @@
 -- `keep` meets its contract: i bytes were moved, and those from i on are as they were. Assumes nothing.
-use Rattle.std.proofs.Common.{◌≡◌, ℕ, ◌+◌, ◌-◌, ◌<◌, ◌≤◌, List, length, get_or, take, drop, set, sym, ap, ◌∙◌, add_comm, add-one, arith, length-drop, get_or-drop, take_all, take-suc, drop-drop, take-suc-set, drop-set-lt, rules}
-use Rattle.typed.proofs.keep.Statement.{statement}
-use Rattle.typed.proofs.keep.Tie as tie
+use Rattle.std.proofs.Common.{◌≡◌, ℕ, ◌+◌, ◌<◌, List, length, get_or, take, drop, set, sym, ap, ◌∙◌, add_comm, add-one, arith, length-drop, get_or-drop, take_all, take-suc, drop-drop, take-suc-set, drop-set-lt, rules}
+use Rattle.typed.proofs.keep.Goals as goal
 
 -- what stands behind the bytes moved is as it was
 same_byte : (now before : List ℕ) (from i : ℕ) → drop i now ≡ drop i before → get_or now (from + i) 0 ≡ get_or before (from + i) 0
@@ -21,38 +20,17 @@ kept : (now before : List ℕ) (i x : ℕ) → drop i now ≡ drop i before → 
 kept now before i x e =
     drop-set-lt (i + 1) now i x (omega arith) ∙ sym (drop-drop 1 i now) ∙ ap (drop 1) e ∙ drop-drop 1 i before
 
-abbrev invariant-loop : tie.invariant-loop
-invariant-loop input₀ from i₀ input i =
-    (from + i ≤ length input₀) × (length input ≡ length input₀) × (take i input ≡ take i (drop from input₀)) × (drop i input ≡ drop i input₀)
-
-abbrev decreases-loop : tie.decreases-loop
-decreases-loop input₀ from i₀ input i = length input₀ - i
-
-loop-again : tie.Need-loop-preserved invariant-loop decreases-loop
-loop-again c =
-    let loop = c.before.before.loop in
-    let args = c.before.before.before.args in
+pub loop-i-preserved : goal.loop-i-preserved
+loop-i-preserved c =
+    let loop = c.loop-i in
+    let args = c.args in
     (search rules, search rules, moved loop.input args.input.now args.from loop.i (search rules) (search rules) loop.invariant.3 loop.invariant.2, kept loop.input args.input.now loop.i _ loop.invariant.3)
 
-returns : tie.Need-returns invariant-loop decreases-loop
+pub returns : goal.returns
 returns c =
-    let loop = c.before.loop in
-    let args = c.before.before.args in
-    (search rules, loop.invariant.2 ∙ take_all loop.i (drop args.from args.input.now) (omega (arith, length-drop args.from args.input.now)))
-
-pub keep_spec : {M : Type 1} → statement M
-keep_spec =
-    tie.close
-    (tie.spec
-    invariant-loop
-    decreases-loop
-    (λ c. search rules)
-    (λ c. search rules)
-    (λ c. search rules)
-    (λ c. search rules)
-    (λ c. search rules)
-    (λ c. search rules)
-    (λ c. search rules)
-    loop-again
-    (λ c. search rules)
-    returns)
+    let loop = c.loop-i in
+    let args = c.args in
+    record {
+      value = search rules;
+      input_after = loop.invariant.2 ∙ take_all loop.i (drop args.from args.input.now) (omega (arith, length-drop args.from args.input.now));
+    }
