@@ -8,7 +8,7 @@ ghost use Rattle.input.specs.Pieces.{whole_part};
 use std::io::Read;
 
 // How many bytes were read, and whether reading ended there because a read failed.
-#[derive(Drop)]
+#[derive(Clone, Copy)]
 pub struct Got {
     pub len: usize,
     pub failed: bool,
