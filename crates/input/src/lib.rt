@@ -1,14 +1,14 @@
-// Standard input, read by blocks. What the system hands over is assumed to be the input; no contract can say what it is.
+// An input, read by blocks. What the system hands over is assumed to be the input; no contract can say what it is.
 #![tactic(auto)]
 
 ghost use Rattle.std.specs.Prelude.{◌≤◌, ◌≡◌};
 ghost use Rattle.io.specs.Counts.{IsPrefixLen};
 ghost use Rattle.input.specs.Pieces.{whole_part};
 
-use libc::STDIN_FILENO;
+use std::io::Read;
 
 // How many bytes were read, and whether reading ended there because a read failed.
-#[derive(Drop)]
+#[derive(Clone, Copy)]
 pub struct Got {
     pub len: usize,
     pub failed: bool,
@@ -16,20 +16,26 @@ pub struct Got {
 
 // Reads until buf is full, the input ends or a read fails, and answers how many bytes it put at the start of buf. A read that a signal
 // interrupts before it moves a byte counts as one that failed.
-pub fn fill(buf: &mut [u8]) -> Got
+pub fn fill<R: Read>(input: &mut R, buf: &mut [u8]) -> Got
     ensures { IsPrefixLen result.len buf.new }
 {
     let mut done = 0;
     while done < buf.len() {
-        let got = libc::read(STDIN_FILENO, &mut buf[done..]);
-        let more = io::count(got, &buf[done..]);
-        if more == 0 {
-            return Got {
-                len: done,
-                failed: got < 0,
-            };
+        match input.read(&mut buf[done..]) {
+            Ok(0) => {
+                return Got {
+                    len: done,
+                    failed: false,
+                };
+            }
+            Ok(more) => done += more,
+            Err(_) => {
+                return Got {
+                    len: done,
+                    failed: true,
+                };
+            }
         }
-        done += more;
     }
     Got {
         len: done,

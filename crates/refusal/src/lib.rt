@@ -7,8 +7,9 @@ ghost use Rattle.text.specs.Calls.{refused, refused_at, answer_of};
 ghost use Rattle.refusal.specs.Said.{refusal_start, refusal_line};
 
 use decimal::{put, put_number};
-use libc::STDERR_FILENO;
 use text::Outcome;
+
+const STDERR_FILENO: i32 = 2;
 
 // The words of the line and three numbers, of 20 digits at most each, fit 87 bytes.
 const LINE: usize = 87;

@@ -7,11 +7,15 @@ ghost use Rattle.text.specs.Calls.{answer_of};
 ghost use Rattle.shown.specs.Showing.{records_of, ShowsOne, Shows};
 
 use input::{fill, whole};
-use libc::{STDERR_FILENO, STDOUT_FILENO};
 use refusal::report;
 use slots::decode::RECORD;
+use std::io::Read;
 use std::num::wrapping_add_u64;
 use text::{Outcome, write};
+
+const STDOUT_FILENO: i32 = 1;
+
+const STDERR_FILENO: i32 = 2;
 
 // Records are read in blocks of 384: their texts fit 65,536 bytes.
 const BLOCK: usize = 24576;
@@ -91,13 +95,13 @@ fn show_block(input: &[u8], first: u64, text: &mut [u8]) -> Block
 }
 
 // Block after block, until the input ends or cannot be read, a record is refused, or the text cannot be written.
-fn run() {
+fn run<R: Read>(stdin: &mut R) {
     let mut input = [0u8; BLOCK];
     let mut text = io::large_buffer();
     let mut place: u64 = 1;
     let mut turns = u64::MAX;
     while turns > 0 {
-        let got = fill(&mut input);
+        let got = fill(stdin, &mut input);
         let n = whole(got, RECORD);
         let block = show_block(&input[..n], place, &mut text);
         if !io::write_all(STDOUT_FILENO, &text[..block.len]) {
@@ -121,6 +125,6 @@ fn run() {
     }
 }
 
-fn main() {
-    run();
+fn main(rt: HostRuntime) {
+    run(&mut rt.stdin());
 }

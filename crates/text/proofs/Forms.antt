@@ -10,7 +10,6 @@ use lib.Dec.{ltb}
 use lib.ListN.{length, get_or, take}
 use lib.Seq.{take-suc}
 use borrow.Author.Tests.{ltb-true, ltb-false}
-use Rattle.plain.specs.Ops as P
 use Rattle.plain.specs.Record.{uses_second, names}
 use Rattle.plain.proofs.Tests.{by_test}
 use Rattle.decimal.specs.Decimal.{decimal, blanked}

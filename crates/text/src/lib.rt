@@ -52,11 +52,11 @@ pub fn read(text: &[u8], to: &mut [u8]) -> Outcome
 }
 
 // Puts a result at the start of a buffer and answers its length; touches nothing where the buffer is shorter.
-fn hand_over(res: &[u8], to: &mut [u8]) -> Outcome
-    ensures { Handed res.now to.old (answer_of result) to.new }
+fn hand_over(made: &[u8], to: &mut [u8]) -> Outcome
+    ensures { Handed made.now to.old (answer_of result) to.new }
 {
-    if to.len() < res.len() {
+    if to.len() < made.len() {
         return Outcome::TooShort;
     }
-    Outcome::Length(put(to, 0, res))
+    Outcome::Length(put(to, 0, made))
 }

@@ -1,12 +1,11 @@
 -- A RUN OVER BLOCKS takes what taking the whole input at once would: the same records, and the same refusal at the same place and line. Assumes
 -- nothing.
-use Rattle.std.proofs.Common.{◌≡◌, ℕ, suc, ◌+◌, ◌-◌, ◌<◌, ◌≤◌, Bool, true, false, not, ◌&&◌, ltb, List, [], ◌∷◌, ◌++◌, length, take, drop, sym, refl, ap, ◌∙◌, append_assoc, append-nil, arith, length-append, take-append-drop, take_all, take-take, drop_at, ltb-true, le-ltb}
+use Rattle.std.proofs.Common.{◌≡◌, ℕ, suc, ◌+◌, ◌<◌, ◌≤◌, Bool, true, false, not, ◌&&◌, ltb, List, [], ◌∷◌, ◌++◌, length, take, drop, sym, refl, ap, ◌∙◌, append_assoc, append-nil, arith, length-append, take-append-drop, take_all, take-take, drop_at, ltb-true, le-ltb}
 use mathlib.Core.Option.{Option, none, some}
 use Rattle.plain.proofs.Tests.{by_test}
 use Rattle.text.specs.Text.{joined}
 use Rattle.text.specs.Calls.{Answer, wrote, refused_at}
 use Rattle.text.proofs.Laws.{no_longer}
-use Rattle.input.specs.Pieces.{behind}
 use Rattle.typed.specs.Bookings.{bookings}
 use Rattle.typed.specs.Taking.{Takes, all, one, stop, longest, whole, answered, TakesBlock, Ran, Over}
 use Rattle.typed.proofs.Cutting.{first, nothing_lost, border, begun}

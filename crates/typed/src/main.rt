@@ -10,11 +10,15 @@ ghost use Rattle.typed.specs.Bookings.{parts, Ends};
 ghost use Rattle.typed.specs.Taking.{may_go_on, TakesBlock};
 
 use input::Got;
-use libc::{STDERR_FILENO, STDOUT_FILENO};
 use refusal::report;
 use slots::decode::RECORD;
+use std::io::Read;
 use std::num::wrapping_add_u64;
 use text::{Outcome, read};
+
+const STDOUT_FILENO: i32 = 1;
+
+const STDERR_FILENO: i32 = 2;
 
 // The records of a block's bookings fit 65,536 bytes, and a block has room for more than a booking.
 const BLOCK: usize = 1024;
@@ -133,12 +137,12 @@ fn keep(input: &mut [u8], from: usize) -> usize
 }
 
 // Reads behind the first `rest` bytes of a block, which stay, and answers how many bytes it has then.
-fn fill(input: &mut [u8], rest: usize) -> Got
+fn fill<R: Read>(stdin: &mut R, input: &mut [u8], rest: usize) -> Got
     requires { rest ≤ length input.old }
     ensures prefix_len { IsPrefixLen result.len input.new }
     ensures rest_le_len { (rest ≤ result.len) × (take rest input.new ≡ take rest input.old) }
 {
-    let got = input::fill(&mut input[rest..]);
+    let got = input::fill(stdin, &mut input[rest..]);
     Got {
         len: rest + got.len,
         failed: got.failed,
@@ -156,14 +160,14 @@ fn ends_input(n: usize, failed: bool) -> bool
 }
 
 // Block after block, until the input ends or cannot be read, a booking is refused, or the records cannot be written.
-fn run() {
+fn run<R: Read>(stdin: &mut R) {
     let mut input = [0u8; BLOCK];
     let mut records = io::large_buffer();
     let mut rest = 0;
     let mut place: u64 = 1;
     let mut turns = u64::MAX;
     while turns > 0 {
-        let got = fill(&mut input, rest);
+        let got = fill(stdin, &mut input, rest);
         let n = got.len;
         let last = ends_input(n, got.failed);
         let block = take_block(&input[..n], last, place, &mut records);
@@ -189,6 +193,6 @@ fn run() {
     }
 }
 
-fn main() {
-    run();
+fn main(rt: HostRuntime) {
+    run(&mut rt.stdin());
 }
