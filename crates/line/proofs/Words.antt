@@ -21,7 +21,7 @@ pub record Words : Type 0 where
   pub of_committed : (i n m s b : ℕ) → word_of (committed i n m s b) ≡ ascii "committed"
   pub of_waiting : (i w b : ℕ) → word_of (waiting i w b) ≡ ascii "waiting"
   pub of_value : (x : ℕ) → word_of (value x) ≡ ascii "value"
-  pub of_to_do : (w b : ℕ) → word_of (to_do w b) ≡ ascii "left_to_do"
+  pub of_to_do : (w b : ℕ) → word_of (to_do w b) ≡ ascii "to-do"
   pub of_unconfirmed : (b : ℕ) → word_of (unconfirmed b) ≡ ascii "unconfirmed"
   pub of_begun : (p : ℕ) → word_of (begun p) ≡ ascii "begun"
   pub of_entry : (p : ℕ) (l : List ℕ) → word_of (entry p l) ≡ ascii "entry"

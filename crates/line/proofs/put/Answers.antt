@@ -8,8 +8,7 @@ use mathlib.Core.List.{List, [], ◌∷◌, ◌++◌, append_assoc, append-nil}
 use lib.ListN.{length, get_or, take, set}
 use lib.Seq.{take-suc, take-suc-set, take_all}
 use borrow.Author.Rules.{rules}
-use Rattle.line.proofs.put.Statement.{statement}
-use Rattle.line.proofs.put.Tie as tie
+use Rattle.line.proofs.put.Goals as goal
 
 -- a turn's store
 one_more : (bytes start text : List ℕ) (at i : ℕ) → at + i < length bytes → i < length text → take (at + i) bytes ≡ start ++ take i text
@@ -23,44 +22,21 @@ all_there : (bytes start text : List ℕ) (at i : ℕ) → length text ≤ i →
     → take (at + i) bytes ≡ start ++ text
 all_there bytes start text at i h e = e ∙ ap (λ (t : List ℕ). start ++ t) (take_all i text h)
 
-abbrev invariant-loop : tie.invariant-loop
-invariant-loop text bytes₀ at i₀ bytes i = (i ≤ length text) × (take (at + i) bytes ≡ take at bytes₀ ++ take i text) × (length bytes ≡ 144)
-
-abbrev decreases-loop : tie.decreases-loop
-decreases-loop text bytes₀ at i₀ bytes i = length text - i
-
-loop-holds : tie.Need-loop-init invariant-loop decreases-loop
-loop-holds c =
-    let l = c.before.args.l in
+pub loop-i-init : goal.loop-i-init
+loop-i-init c =
+    let l = c.args.l in
     (search rules, rw add-zero (sym (append-nil (take l.len l.bytes))), search rules)
 
-loop-again : tie.Need-loop-preserved invariant-loop decreases-loop
-loop-again c =
-    let loop = c.before.before.loop in
-    let args = c.before.before.before.before.args in
+pub loop-i-preserved : goal.loop-i-preserved
+loop-i-preserved c =
+    let loop = c.loop-i in
+    let args = c.args in
     let start = take args.l.len args.l.bytes in
     let stands = one_more loop.bytes start args.text.now args.l.len loop.i (search rules) (search rules) loop.invariant.1 in
     (search rules, stands, search rules)
 
-returns : tie.Need-returns invariant-loop decreases-loop
+pub returns : goal.returns
 returns c =
-    let loop = c.before.loop in
-    let args = c.before.before.before.args in
-    let start = take args.l.len args.l.bytes in
-    (all_there loop.bytes start args.text.now args.l.len loop.i (search rules) loop.invariant.1, search rules)
-
-pub put_spec : {M : Type 1} → statement M
-put_spec =
-    tie.close
-    (tie.spec
-    invariant-loop
-    decreases-loop
-    loop-holds
-    (λ c. search rules)
-    (λ c. search rules)
-    (λ c. search rules)
-    (λ c. search rules)
-    (λ c. search rules)
-    loop-again
-    (λ c. search rules)
-    returns)
+    let loop = c.loop-i in
+    let args = c.args in
+    let start = take args.l.len args.l.bytes in record { result_value = all_there loop.bytes start args.text.now args.l.len loop.i (search rules) loop.invariant.1; len_value = search rules }

@@ -1,5 +1,5 @@
 -- After i turns the first i numbers stand behind the line, a blank before each. Assumes nothing.
-use Prim.Native.Nat.{ℕ, ◌+◌, ◌*◌, ◌-◌, ◌≤◌, ◌<◌}
+use Prim.Native.Nat.{ℕ, ◌+◌, ◌-◌, ◌≤◌, ◌<◌}
 use native.Mathlib.Numerals.{add-one}
 use mathlib.Core.Path.{◌≡◌, ◌∙◌, ap, sym}
 use mathlib.Core.List.{List, [], ◌∷◌, ◌++◌, append_assoc, append-nil}
@@ -8,8 +8,7 @@ use lib.Seq.{take-suc, take_all}
 use borrow.Author.Rules.{rules}
 use Rattle.decimal.specs.Decimal.{decimal, blanked}
 use Rattle.line.specs.Text.{written}
-use Rattle.line.proofs.each.Statement.{statement}
-use Rattle.line.proofs.each.Tie as tie
+use Rattle.line.proofs.each.Goals as goal
 
 -- the numbers with one more behind them
 blanked-more : (ns : List ℕ) (n : ℕ) → blanked (ns ++ (n ∷ [])) ≡ blanked ns ++ (32 ∷ decimal n)
@@ -35,48 +34,23 @@ none_yet start ns = sym (append-nil start)
 all_there : (ns start now : List ℕ) (i : ℕ) → length ns ≤ i → now ≡ start ++ blanked (take i ns) → now ≡ start ++ blanked ns
 all_there ns start now i h e = e ∙ ap (λ (t : List ℕ). start ++ blanked t) (take_all i ns h)
 
-abbrev invariant-loop : tie.invariant-loop
-invariant-loop numbers so-far₀ i₀ t5 so_far i =
-    (i ≤ length numbers) × (written so_far ≡ written so-far₀ ++ blanked (take i numbers)) × (so_far.len ≤ so-far₀.len + 21 * i)
+pub loop-i-init : goal.loop-i-init
+loop-i-init c = (search rules, none_yet (written c.args.l) c.args.numbers.now, search rules)
 
-abbrev decreases-loop : tie.decreases-loop
-decreases-loop numbers so-far₀ i₀ t5 so_far i = length numbers - i
-
-loop-holds : tie.Need-loop-init invariant-loop decreases-loop
-loop-holds c = (search rules, none_yet (written c.before.args.l) c.before.args.numbers.now, search rules)
-
-loop-again : tie.Need-loop-preserved invariant-loop decreases-loop
-loop-again c =
-    let loop = c.before.before.before.before.before.loop in
-    let args = c.before.before.before.before.before.before.before.args in
-    let blank = c.before.before.put in
-    let number = c.number in
+pub loop-i-preserved : goal.loop-i-preserved
+loop-i-preserved c =
+    let loop = c.loop-i in
+    let args = c.args in
+    let blank = c.put in
+    let number = c.number-so_far in
     let now = written loop.so_far in
     let stands =
     one_more args.numbers.now (written args.l) now (written blank.result) (written number.result) loop.i (search rules)
-    loop.invariant.1 blank.ensures.0 number.ensures.0
+    loop.invariant.1 blank.ensures.result_value number.ensures.result_value
     in
     (search rules, stands, search rules)
 
-returns : tie.Need-returns invariant-loop decreases-loop
+pub returns : goal.returns
 returns c =
-    let loop = c.before.loop in
-    let args = c.before.before.before.args in
-    (all_there args.numbers.now (written args.l) (written loop.so_far) loop.i (search rules) loop.invariant.1, search rules)
-
-pub each_spec : {M : Type 1} → statement M
-each_spec =
-    tie.close
-    (tie.spec
-    invariant-loop
-    decreases-loop
-    loop-holds
-    (λ c. search rules)
-    (λ c κs. search rules)
-    (λ c. search rules)
-    (λ c. search rules)
-    (λ c κs. search rules)
-    (λ c. search rules)
-    (λ c. search rules)
-    loop-again
-    returns)
+    let loop = c.loop-i in
+    let args = c.args in record { result_value = all_there args.numbers.now (written args.l) (written loop.so_far) loop.i (search rules) loop.invariant.1; len_bound = search rules }

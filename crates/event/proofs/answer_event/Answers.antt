@@ -1,0 +1,8 @@
+-- The event's line is that of its answer, whose cells are in no line. Assumes nothing.
+use mathlib.Core.Path.{◌∙◌}
+use Rattle.event.proofs.Events.{same_line}
+use Rattle.event.proofs.answer_event.Goals as goal
+
+pub returns : goal.returns
+returns c =
+    let happen = c.happen-reply in record { listed = record { answer = _; happened = happen.ensures; says = c.Line-of.ensures.0 ∙ same_line _ happen.result.answer _ }; len_bound = c.Line-of.ensures.1 }
