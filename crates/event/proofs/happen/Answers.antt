@@ -36,5 +36,5 @@ returns-in-4 c =
 
 pub returns-in_default : goal.returns-in_default
 returns-in_default c =
-    let others = c.in_default.rest in
+    let others = c.in_default.in_default-own.rest in
     not_made _ _ (no_kind _ c.if-bytes-ne-EVENT.false others.0.0.0.1 others.0.0.1 others.0.1 others.1)
