@@ -12,23 +12,27 @@ ghost use Rattle.drive.specs.Listing.{events_of, ListsOne, Lists, RanTo};
 use decimal::put;
 use event::{EVENT, answer_event};
 use input::{fill, whole};
-use libc::{STDERR_FILENO, STDOUT_FILENO};
 use line::Line;
 use site::Site;
+use std::io::Read;
 use std::num::wrapping_add_u64;
+
+const STDOUT_FILENO: i32 = 1;
+
+const STDERR_FILENO: i32 = 2;
 
 // Events are read in blocks of 450: their lines fit 65,536 bytes.
 const BLOCK: usize = 32400;
 
 // The site after an event, and how many bytes the text has with its line.
-#[derive(Drop)]
+#[derive(Clone, Copy)]
 struct Listed {
     site: Site,
     len: usize,
 }
 
 // The site after some events, how many bytes the text has with their lines, and the place of the next event.
-#[derive(Drop)]
+#[derive(Clone, Copy)]
 struct Block {
     site: Site,
     len: usize,
@@ -129,7 +133,7 @@ fn write_lines(lines: &[u8], failed: bool) -> bool {
 }
 
 // Block after block, until the input ends or cannot be read, or the lines cannot be written; hands back the site at the end.
-fn run(mut site: Site, committed: &mut [u32], working: &mut [u32]) -> Site
+fn run<R: Read>(stdin: &mut R, mut site: Site, committed: &mut [u32], working: &mut [u32]) -> Site
     requires { FromFresh [] (state_of site committed.old working.old) }
     ensures { RanTo (state_of site committed.old working.old) (state_of result committed.new working.new) }
 {
@@ -138,7 +142,7 @@ fn run(mut site: Site, committed: &mut [u32], working: &mut [u32]) -> Site
     let mut place: u64 = 1;
     let mut turns = u64::MAX;
     while turns > 0 {
-        let got = fill(&mut input);
+        let got = fill(stdin, &mut input);
         let n = whole(got, EVENT);
         let block = list_block(site, committed, working, place, &input[..n], &mut text);
         site = block.site;
@@ -154,9 +158,9 @@ fn run(mut site: Site, committed: &mut [u32], working: &mut [u32]) -> Site
     site
 }
 
-fn main() {
+fn main(rt: HostRuntime) {
     let mut committed = [0u32; 1024];
     let mut working = [0u32; 1024];
     let start = promised::fresh(&mut committed, &mut working);
-    run(start.site, &mut committed, &mut working);
+    run(&mut rt.stdin(), start.site, &mut committed, &mut working);
 }
