@@ -65,19 +65,7 @@ nothing_lost c before (entry place cells) = refl
 pub shown_entry : (a : D.Answer) (place : ℕ) (cells old new : List ℕ) → a ≡ v.Entry place → new ≡ cells → new ≡ shown (answer_of a cells) old
 shown_entry a place cells old new e h = rw e h
 
-no_entry : OneOf (0 ∷ 1 ∷ 2 ∷ 3 ∷ 4 ∷ 5 ∷ 6 ∷ 7 ∷ 8 ∷ 9 ∷ []) 10 → ⊥
-no_entry (inl e) = omega arith
-no_entry (inr (inl e)) = omega arith
-no_entry (inr (inr (inl e))) = omega arith
-no_entry (inr (inr (inr (inl e)))) = omega arith
-no_entry (inr (inr (inr (inr (inl e))))) = omega arith
-no_entry (inr (inr (inr (inr (inr (inl e)))))) = omega arith
-no_entry (inr (inr (inr (inr (inr (inr (inl e))))))) = omega arith
-no_entry (inr (inr (inr (inr (inr (inr (inr (inl e)))))))) = omega arith
-no_entry (inr (inr (inr (inr (inr (inr (inr (inr (inl e))))))))) = omega arith
-no_entry (inr (inr (inr (inr (inr (inr (inr (inr (inr e))))))))) = omega arith
-
-pub shown_other : (a : D.Answer) (cells old : List ℕ) → OneOf (0 ∷ 1 ∷ 2 ∷ 3 ∷ 4 ∷ 5 ∷ 6 ∷ 7 ∷ 8 ∷ 9 ∷ []) (tag_of the_type a) → old ≡ shown (answer_of a cells) old
+pub shown_other : (a : D.Answer) (cells old : List ℕ) → ((x : ℕ) → a ≡ v.Entry x → ⊥) → old ≡ shown (answer_of a cells) old
 shown_other (v.Refused n) cells old h = refl
 shown_other (v.Queued id class place slot) cells old h = refl
 shown_other (v.Stepped id done) cells old h = refl
@@ -88,7 +76,7 @@ shown_other (v.Value n) cells old h = refl
 shown_other (v.ToDo w backs) cells old h = refl
 shown_other (v.Unconfirmed backs) cells old h = refl
 shown_other (v.Begun place) cells old h = refl
-shown_other (v.Entry place) cells old h = absurd (no_entry h)
+shown_other (v.Entry place) cells old h = absurd (h place refl)
 
 pub read_right : (a : D.Answer) (place : ℕ) (run : List ℕ) (c : ℕ) → a ≡ v.Entry place → Readable a run c → (length run ≡ 1024) × (c < 16)
 read_right a place run c e h = subst (λ (b : D.Answer). Readable b run c) e h
