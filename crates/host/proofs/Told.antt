@@ -1,19 +1,14 @@
 -- The six numbers lose nothing of an answer, and a host's call, fresh start or text has one outcome. Assumes nothing.
 use Prim.Native.Nat.{ℕ, ◌<◌}
 use mathlib.Core.Path.{◌≡◌, refl, sym, ap, ◌∙◌, subst}
-use native.Mathlib.Omega.{arith}
-use mathlib.Core.Logic.{inl, inr}
 use mathlib.Core.Bool.{cond}
-use mathlib.Core.List.{List, [], ◌∷◌}
+use mathlib.Core.List.{List, []}
 use lib.Dec.{eqb}
 use lib.ListN.{length, get_or}
 use Rattle.plain.specs.Steps.{Answer, refused, queued, stepped, executed, committed, waiting, value, to_do, unconfirmed, begun, entry}
 use Rattle.plain.specs.Site.{Call, work}
 use Rattle.site.specs.declared.Answer as D
 use Rattle.site.specs.declared.Answer.TheVariants as v
-use Rattle.site.specs.contracts.Answer.{the_type}
-use types.Run.{OneOf}
-use denote.Enum.Declared.{tag_of}
 use Rattle.site.specs.Held.{answer_of}
 use Rattle.text.specs.Calls as T
 use Rattle.text.proofs.Laws.{one_outcome_of_write, one_outcome_of_read}

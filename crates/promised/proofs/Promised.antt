@@ -1,6 +1,6 @@
 -- What is promised of a call follows from its contract in `site` and from what the declared types say of both sites. Assumes nothing.
 use Prim.Native.Nat.{ℕ}
-use mathlib.Core.Path.{◌≡◌, subst}
+use mathlib.Core.Path.{subst}
 use mathlib.Core.List.{List}
 use Rattle.plain.specs.Steps.{Answer}
 use Rattle.plain.specs.Site.{Call, offer, confirm, work, read, look, query}

@@ -1,6 +1,6 @@
 -- `list_block` meets its contract: by the walk over the block, event by event; each adds at most 144 bytes to the text, and 450 of them fit.
 -- Assumes nothing.
-use Rattle.std.proofs.Common.{◌-◌, arith, rules}
+use Rattle.std.proofs.Common.{arith, rules}
 use Rattle.site.specs.Held.{state_of}
 use Rattle.drive.proofs.Listing.{walked, short_one, none_left, ended, counted}
 use Rattle.drive.proofs.list_block.Goals as goal

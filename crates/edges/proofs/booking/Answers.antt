@@ -1,9 +1,7 @@
 -- `booking` is safe: the record keeps its 64 bytes. Assumes nothing.
-use Prim.Native.Nat.{◌-◌}
 use mathlib.Core.Path.{ap, ◌∙◌}
 use native.Mathlib.Omega.{arith}
 use lib.ListN.{length, length-set}
-use mathlib.Core.Logic.{⊎_elim}
 use Rattle.edges.proofs.booking.Goals as goal
 use Rattle.edges.proofs.booking.Goals.{else-k-n, then-k-n}
 
