@@ -23,7 +23,7 @@ fn main() {
     let folder = folder();
     let archive = folder.join(ARCHIVE);
     if !archive.is_file() {
-        println!("cargo::error={} is missing; `rt staticlib host` makes it", archive.display());
+        println!("cargo::error={} is missing; `bash tools/build host` makes it", archive.display());
     }
     println!("cargo::rerun-if-env-changed={FOLDER_VARIABLE}");
     println!("cargo::rerun-if-changed={}", archive.display());
