@@ -64,8 +64,8 @@ pub fn gather_owners(slots: [Slot; SLOTS], top: u64) -> Owners
 }
 
 // The numbers of the slots.
-pub fn gather_numbers(slots: [Slot; SLOTS]) -> [u32; SLOTS]
-    ensures { Staged slots result }
+pub fn gather_numbers(slots: &[Slot; SLOTS]) -> [u32; SLOTS]
+    ensures { Staged slots.now result }
 {
     let mut numbers = [0; SLOTS];
     let mut slot = 0;

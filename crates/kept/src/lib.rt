@@ -82,33 +82,21 @@ fn stands<'a>(kept: &'a [u32; KEPT], marks: &'a [u8; MARKS], len: usize, id: u32
     among(kept, len, id)
 }
 
-// What the walk over the kept ids came to: whether they differ, and if so a mark for each.
-#[derive(Drop)]
-struct Marked {
-    differ: bool,
-    marks: [u8; MARKS],
-}
-
-// "Kept ids differ."
-fn mark(kept: &[u32; KEPT]) -> Marked
-    ensures decides { Decides result.differ (KeptApart kept.now) }
-    ensures marks { result.differ ≡ true → Marks kept.now result.marks }
+// "Kept ids differ": whether they do, and if so a mark for each.
+fn mark(kept: &[u32; KEPT], marks: &mut [u8; MARKS]) -> bool
+    ensures decides { Decides result (KeptApart kept.now) }
+    ensures marks { result ≡ true → Marks kept.now marks.new }
 {
-    let mut m = Marked {
-        differ: false,
-        marks: [0; MARKS],
-    };
     let mut p = 0;
     while p < KEPT {
         let id = kept[p];
-        if stands(kept, &m.marks, p, id) {
-            return m;
+        if stands(kept, &*marks, p, id) {
+            return false;
         }
-        m.marks[(id % MARK_STEP) as usize] = 1;
+        marks[(id % MARK_STEP) as usize] = 1;
         p += 1;
     }
-    m.differ = true;
-    m
+    true
 }
 
 // Whether a number is among the last 256.
@@ -177,9 +165,9 @@ pub fn kept_ok<'a>(
     if !filled(&kept, confirmations) {
         return false;
     }
-    let marked = mark(&kept);
-    if !marked.differ {
+    let mut marks = [0; MARKS];
+    if !mark(&kept, &mut marks) {
         return false;
     }
-    all_match(ids, numbers, &kept, &marked.marks, confirmations)
+    all_match(ids, numbers, &kept, &marks, confirmations)
 }

@@ -1,9 +1,10 @@
 // The site: its value, the check that it is sound with its cells, and fresh. The calls stand in offer, work, confirm, look and query.
 #![tactic(auto)]
 
-ghost use Rattle.std.specs.Prelude.{◌≡◌, length};
+ghost use Rattle.std.specs.Prelude.{◌≡◌, ◌+◌, length};
 ghost use Rattle.plain.specs.Decides.{Decides};
 ghost use Rattle.store.specs.Sound.{Sound};
+ghost use Rattle.store.specs.Checks.{SlotsIn, Owned};
 ghost use Rattle.store.specs.Calls.{Started};
 ghost use Rattle.site.specs.Held.{store, state_of, Door};
 
@@ -15,7 +16,7 @@ mod waiting;
 mod work;
 
 use cells::{RUN, clear};
-use checks::{CLASS_PLACES, SLOT_LIMIT, cells_ok, gather_owners, gather_stages, laid_out};
+use checks::{CLASS_PLACES, Owners, SLOT_LIMIT, cells_ok, gather_owners, gather_stages, laid_out};
 use kept::{KEPT, kept_ok};
 use queries::Query;
 use slots::{Slot, free_slot};
@@ -151,11 +152,24 @@ impl Site {
         requires { (length committed.now ≡ 1024) × (length working.now ≡ 1024) }
         ensures { Decides result (Sound (store self) committed.now working.now) }
     {
-        let slots = self.slots;
-        let o = gather_owners(slots, (self.confirmations as u64) + (self.begun as u64));
+        let o = gather_owners(
+            self.slots,
+            (self.confirmations as u64) + (self.begun as u64),
+        );
         if !o.ok {
             return false;
         }
+        self.sound_given(&o, committed, working)
+    }
+
+    // Whether the site is sound with its cells, where its slots are in order and `o` has their ids and classes.
+    fn sound_given(self, o: &Owners, committed: &[u32], working: &[u32]) -> bool
+        requires right { (length committed.now ≡ 1024) × (length working.now ≡ 1024) }
+        requires in_order { SlotsIn self.slots (self.confirmations + self.begun) }
+        requires owned { Owned self.slots o.now.ids o.now.classes }
+        ensures { Decides result (Sound (store self) committed.now working.now) }
+    {
+        let slots = self.slots;
         let table = self.queries;
         let g = gather_stages(slots, table);
         let kept = self.kept;

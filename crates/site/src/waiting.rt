@@ -42,24 +42,24 @@ pub(crate) fn backed(mut v: Slot) -> Slot
 
 impl Site {
     // The place of the first waiting request in class c's queue, its length where none waits.
-    pub(crate) fn first_waiting(self, c: usize) -> usize
-        requires { Laid (store self) × (c < 16) }
-        ensures { FirstWaiting (store self) c result }
+    #[inline(never)]
+    pub(crate) fn first_waiting(&self, c: usize) -> usize
+        requires { Laid (store self.now) × (c < 16) }
+        ensures { FirstWaiting (store self.now) c result }
     {
-        let slots = self.slots;
-        let numbers = gather_numbers(slots);
+        let numbers = gather_numbers(&self.slots);
         let queue = self.queue;
         let lens = self.lens;
         waits_from(&numbers, &queue, CLASS_PLACES * c, lens[c] as usize)
     }
 
     // The same of every class.
-    pub(crate) fn firsts_waiting(self) -> [usize; 16]
-        requires { Laid (store self) }
-        ensures { FirstsWaiting (store self) result }
+    #[inline(never)]
+    pub(crate) fn firsts_waiting(&self) -> [usize; 16]
+        requires { Laid (store self.now) }
+        ensures { FirstsWaiting (store self.now) result }
     {
-        let slots = self.slots;
-        let numbers = gather_numbers(slots);
+        let numbers = gather_numbers(&self.slots);
         let queue = self.queue;
         let lens = self.lens;
         let mut ends = [0; 16];

@@ -10,7 +10,7 @@ use Rattle.kept.proofs.Places.{apart_more, mark_more, new}
 use Rattle.kept.proofs.mark.Goals as goal
 
 pub loop-p-init : goal.loop-p-init
-loop-p-init c = (search rules, length-replicate {A = ℕ} 4096 0, (λ i j l m. absurd (omega arith)), (λ k l. absurd (omega arith)), refl)
+loop-p-init c = (search rules, search rules, (λ i j l m. absurd (omega arith)), (λ k l. absurd (omega arith)))
 
 pub stands-requires : goal.stands-requires
 stands-requires c = (omega arith, c.loop-p.invariant.3)
@@ -19,21 +19,19 @@ pub returns-then-stands : goal.returns-then-stands
 returns-then-stands c =
     let loop· = c.loop-p in
     let a = c.stands.ensures.yes c.if-stands.true in record {
-      decides = rw loop·.invariant.4
-          (decides_false (λ h. omega (arith, a.0, a.1.2, h a.1.0 loop·.p a.1.1 (omega arith) a.1.2)));
-      marks = (λ e. no _ e loop·.invariant.4);
+      decides = (decides_false (λ h. omega (arith, a.0, a.1.2, h a.1.0 loop·.p a.1.1 (omega arith) a.1.2)));
+      marks = (λ e. no _ e refl);
     }
 
 pub loop-p-preserved : goal.loop-p-preserved
 loop-p-preserved c =
     let loop· = c.loop-p in
     let kept· = c.args.kept.now in
-    let marks· = loop·.m.marks in (
+    let marks· = loop·.marks in (
       omega arith,
       length-set marks· _ 1 ∙ loop·.invariant.1,
       apart_more (λ k. get_or kept· k 0) loop·.p loop·.invariant.2 (new kept· loop·.p (c.stands.ensures.no c.if-stands.false)),
       mark_more kept· marks· loop·.p loop·.invariant.1 loop·.invariant.3,
-      loop·.invariant.4,
     )
 
 pub returns : goal.returns

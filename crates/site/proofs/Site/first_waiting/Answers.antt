@@ -16,5 +16,5 @@ pub returns : goal.returns
 returns c =
     let the-args = c.args in
     let waits-from· = c.waits_from in
-    subst (λ (f : ℕ → ℕ). WaitsFrom f the-args.self.queue (136 * the-args.c) (len_of (store the-args.self) the-args.c) waits-from·.result)
+    subst (λ (f : ℕ → ℕ). WaitsFrom f the-args.self.now.queue (136 * the-args.c) (len_of (store the-args.self.now) the-args.c) waits-from·.result)
     c.gather_numbers-numbers.ensures.number waits-from·.ensures

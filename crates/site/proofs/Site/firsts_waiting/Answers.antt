@@ -37,7 +37,7 @@ loop-c-preserved c =
     let l : loop·.c < 16 = omega arith in (
       omega arith,
       length-set loop·.ends loop·.c _ ∙ loop·.invariant.1,
-      one_more _ _ c.args.self.lens loop·.ends loop·.c _
+      one_more _ _ c.args.self.now.lens loop·.ends loop·.c _
           loop·.invariant.1 l loop·.invariant.2 c.waits_from.ensures,
     )
 
@@ -45,5 +45,5 @@ pub returns : goal.returns
 returns c =
     let the-args = c.args in
     let loop· = c.loop-c in
-    subst (λ (f : ℕ → ℕ). (d : ℕ) → d < 16 → WaitsFrom f the-args.self.queue (136 * d) (get_or the-args.self.lens d 0) (get_or loop·.ends d 0))
+    subst (λ (f : ℕ → ℕ). (d : ℕ) → d < 16 → WaitsFrom f the-args.self.now.queue (136 * d) (get_or the-args.self.now.lens d 0) (get_or loop·.ends d 0))
     c.gather_numbers-numbers.ensures.number (λ d l. loop·.invariant.2 d (omega arith))
