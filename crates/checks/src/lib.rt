@@ -35,7 +35,7 @@ const LONGEST: u8 = 136;
 pub const SLOT_LIMIT: u8 = 128;
 
 // The slots' ids and classes; where a slot is neither free nor valid, or was put back too often, not ok.
-#[derive(Drop)]
+#[derive(Clone, Copy)]
 pub struct Owners {
     pub ok: bool,
     pub ids: [u32; SLOTS],
@@ -77,7 +77,7 @@ pub fn gather_numbers(slots: &[Slot; SLOTS]) -> [u32; SLOTS]
 }
 
 // Of what queue places name the lines, done operations and marks, and the work calls that it takes where it is confirmed.
-#[derive(Drop)]
+#[derive(Clone, Copy)]
 pub struct Stages {
     pub lines: [u32; CLASS_PLACES],
     pub dones: [u8; CLASS_PLACES],
@@ -439,7 +439,7 @@ fn agree<'a>(
 }
 
 // What the walk over the queues came to: whether the rules are kept, and the heads.
-#[derive(Drop)]
+#[derive(Clone, Copy)]
 pub struct Laid {
     pub ok: bool,
     pub heads: [u8; CLASSES],

@@ -14,7 +14,7 @@ use usedmap::UsedMap;
 
 // What may still stand in the queues: each slot that is marked, in its class, and each query in the classes that it has still to read; not ok where
 // something stood that may not.
-#[derive(Drop)]
+#[derive(Clone, Copy)]
 pub struct Unseen {
     pub ok: bool,
     pub lo: u64,

@@ -36,7 +36,7 @@ pub fn put_number(to: &mut [u8], at: usize, n: u64) -> usize
 }
 
 // What reading a number came to; `next` is past the byte that stops it.
-#[derive(Drop)]
+#[derive(Clone, Copy)]
 pub struct Number {
     pub ok: bool,
     pub value: u64,

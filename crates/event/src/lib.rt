@@ -72,7 +72,7 @@ pub fn happen(site: Site, committed: &mut [u32], working: &mut [u32], bytes: &[u
 }
 
 // An event's line, and the site to go on with.
-#[derive(Drop)]
+#[derive(Clone, Copy)]
 pub struct Done {
     pub site: Site,
     pub line: Line,

@@ -9,7 +9,7 @@ ghost use Rattle.line.specs.Text.{line_with, line_of, written};
 use site::Answer;
 
 // A line so far: the first len of the bytes.
-#[derive(Drop)]
+#[derive(Clone, Copy)]
 pub struct Line {
     pub bytes: [u8; 144],
     pub len: usize,

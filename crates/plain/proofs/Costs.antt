@@ -141,7 +141,7 @@ confirm_costs c top i n k d s s' f (later x y back en m e p z a t) =
     let sum : costs (confirmed_part d.class.queue) ≡ costs (confirmed_part k.queue) + left y = ap costs p ∙ costs_append (confirmed_part k.queue) y in
     waits x back en (omega (arith, sum, ap left e, left_numbered n x)) (a ∙ ap (λ (w : ℕ). waiting i w back) (r.1 ∙ sym sum))
 
--- ON A SITE: what an accepted call does to them in its class; a refused one and the other classes stay (the law others-left)
+-- ON A SITE: what an accepted call does to them in its class; a refused one and the other classes stay (the law others_left)
 module _ (s : Site) (w : SoundSite s) where
   pub offer_kept : (b : List ℕ) → accepts s (offer b) ≡ true
       → confirmed_costs (offer_step (request_in b) (slot_free s) (s.class (request_in b).class)).class.queue ≡ confirmed_costs (s.class (request_in b).class).queue

@@ -207,7 +207,7 @@ abbrev pub ahead : Site → ℕ → ℕ
 ahead s c = confirmed_costs (s.class c).queue
 
 -- the cells of class c got by running one after another, from zeros, its requests that were confirmed in a history: those with the numbers up to its
--- count of confirmations (the laws counted and taken-before)
+-- count of confirmations (the laws counted and taken_before)
 unfoldable pub cells_after : List Call → ℕ → List ℕ
 cells_after h c = run_all zeros (confirmed_in c h)
 

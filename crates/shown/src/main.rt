@@ -21,7 +21,7 @@ const STDERR_FILENO: i32 = 2;
 const BLOCK: usize = 24576;
 
 // What showing a record came to, and how many bytes the text has then.
-#[derive(Drop)]
+#[derive(Clone, Copy)]
 struct Shown {
     outcome: Outcome,
     len: usize,
@@ -47,7 +47,7 @@ fn show_record(bytes: &[u8], text: &mut [u8], len: usize) -> Shown
 }
 
 // What showing a block came to: the last outcome, the bytes of the text, and the place of the record behind those shown.
-#[derive(Drop)]
+#[derive(Clone, Copy)]
 struct Block {
     outcome: Outcome,
     len: usize,

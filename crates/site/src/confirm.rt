@@ -13,7 +13,7 @@ use kept::KEPT;
 use slots::Slot;
 
 // What came of judging a confirmation: the number that refuses it, or 0 and where its request is.
-#[derive(Drop)]
+#[derive(Clone, Copy)]
 struct Found {
     no: u8,
     slot: usize,

@@ -91,14 +91,14 @@ pub enum Answer {
 }
 
 // The site handed back, with the answer.
-#[derive(Drop)]
+#[derive(Clone, Copy)]
 pub struct Reply {
     pub site: Site,
     pub answer: Answer,
 }
 
 // A fresh site, and 0; or an empty one, and the number of the refusal.
-#[derive(Drop)]
+#[derive(Clone, Copy)]
 pub struct Fresh {
     pub site: Site,
     pub refused: u8,

@@ -13,7 +13,7 @@ use crate::{Answer, CELLS, CLASS_PLACES, CLASSES, SLOT_LIMIT, SLOTS, Site};
 use slots::Slot;
 
 // A slot that is looked at; and W, the sum of its class, where it ends the confirmed part there, else 0.
-#[derive(Drop)]
+#[derive(Clone, Copy)]
 struct Seen {
     slot: Slot,
     w: u16,

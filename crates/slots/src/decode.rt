@@ -116,7 +116,7 @@ fn spare_zero(bytes: &[u8]) -> bool
 }
 
 // What reading a record came to: where it is none, the slot is the free one.
-#[derive(Drop)]
+#[derive(Clone, Copy)]
 pub struct Record {
     pub ok: bool,
     pub slot: Slot,

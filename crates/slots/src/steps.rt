@@ -40,7 +40,7 @@ pub fn step(mut v: Slot, from: &[u32], cells: &mut [u32]) -> Slot
 }
 
 // What a slot's done operations came to: its mark, and the cells.
-#[derive(Drop)]
+#[derive(Clone, Copy)]
 pub struct Ran {
     pub mark: u8,
     pub cells: [u32; CELLS],

@@ -16,7 +16,7 @@ mod opline; // opline.rt: the line of an operation, read
 mod parse; // parse.rt: a text, read into a slot
 
 // What a call answers: the length of the result, or why there is none; a bad text with its first bad line, from 1.
-#[derive(Drop)]
+#[derive(Clone, Copy)]
 pub enum Outcome {
     Length(usize),
     NoRecord,

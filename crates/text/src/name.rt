@@ -6,7 +6,7 @@ ghost use Rattle.plain.specs.Record.{names};
 use cells::{ADD, NEED, PUT};
 
 // The first len of the letters.
-#[derive(Drop)]
+#[derive(Clone, Copy)]
 pub struct Name {
     pub letters: [u8; 4],
     pub len: usize,

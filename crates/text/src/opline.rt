@@ -31,7 +31,7 @@ fn begins(text: &[u8], at: usize, word: &[u8]) -> bool
 }
 
 // An operation code, 0 for none, and the place behind its name and the blank.
-#[derive(Drop)]
+#[derive(Clone, Copy)]
 struct Named {
     code: u8,
     next: usize,
@@ -77,7 +77,7 @@ fn second_at(text: &[u8], at: usize, code: u8) -> Number
 }
 
 // What reading the line of an operation came to; `next` is past it.
-#[derive(Drop)]
+#[derive(Clone, Copy)]
 pub struct OpLine {
     pub ok: bool,
     pub op: Op,

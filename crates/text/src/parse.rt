@@ -8,7 +8,7 @@ use decimal::number_at;
 use slots::{MOST_OPS, Slot, free_slot};
 
 // What reading the first line came to; `next` is past it.
-#[derive(Drop)]
+#[derive(Clone, Copy)]
 struct Head {
     ok: bool,
     id: u32,
@@ -47,7 +47,7 @@ fn head_at(text: &[u8]) -> Head
 }
 
 // What reading a text came to: the slot of its request, or its first bad line.
-#[derive(Drop)]
+#[derive(Clone, Copy)]
 pub struct Parsed {
     pub ok: bool,
     pub line: usize,

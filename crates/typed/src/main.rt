@@ -72,7 +72,7 @@ fn goes_on(at: usize, end: usize, n: usize, last: bool) -> bool
 }
 
 // What taking a block came to: the last outcome, where what is left begins, the bytes of the records, and the place of the first booking left.
-#[derive(Drop)]
+#[derive(Clone, Copy)]
 struct Block {
     outcome: Outcome,
     at: usize,
