@@ -153,6 +153,13 @@ fn all_match<'a>(
     true
 }
 
+// The kept ids and their marks.
+#[derive(Clone, Copy)]
+struct Seen {
+    kept: [u32; KEPT],
+    marks: [u8; MARKS],
+}
+
 // Whether the kept ids follow their sound rules, with the slots' ids and numbers.
 pub fn kept_ok<'a>(
     ids: &'a [u32; SLOTS],
@@ -162,12 +169,15 @@ pub fn kept_ok<'a>(
 ) -> bool
     ensures { Decides result (KeptOk (nth ids.now) (nth numbers.now) confirmations kept) }
 {
-    if !filled(&kept, confirmations) {
+    let mut seen = Seen {
+        kept: kept,
+        marks: [0; MARKS],
+    };
+    if !filled(&seen.kept, confirmations) {
         return false;
     }
-    let mut marks = [0; MARKS];
-    if !mark(&kept, &mut marks) {
+    if !mark(&seen.kept, &mut seen.marks) {
         return false;
     }
-    all_match(ids, numbers, &kept, &marks, confirmations)
+    all_match(ids, numbers, &seen.kept, &seen.marks, confirmations)
 }
