@@ -1,8 +1,7 @@
 -- Of the places passed no two hold the same id but 0, and each has its mark. Assumes nothing.
-use Prim.Native.Nat.{ℕ}
 use native.Mathlib.Omega.{arith}
 use mathlib.Core.Path.{refl, ◌∙◌}
-use lib.ListN.{get_or, length-set, length-replicate}
+use lib.ListN.{get_or, length-set}
 use borrow.Author.Rules.{rules}
 use Rattle.plain.proofs.Tests.{no}
 use Rattle.plain.proofs.Deciding.{decides_true, decides_false}

@@ -1,7 +1,6 @@
 use Prim.Native.Nat.{◌-◌, ◌≤◌}
 use mathlib.Core.Path.{◌≡◌}
 use lib.ListN.{length, get_or}
-use mathlib.Core.Bool.{false}
 use Rattle.store.specs.Sound.{Apart}
 use Rattle.kept.specs.Marks.{MarkedUpTo}
 use Rattle.kept.proofs.mark.Given as goal

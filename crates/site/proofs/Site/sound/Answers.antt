@@ -1,12 +1,9 @@
 -- `Site::sound` meets its contract: each piece decides its rules, over the fields gathered into lists, and the rules together are soundness.
 -- Assumes nothing.
-use borrow.Author.Tests.{not-true, not-false}
 use Rattle.site.specs.Held.{store}
 use Rattle.site.proofs.Shape.{shaped}
-use Rattle.plain.proofs.Deciding.{decides_false, decides_as}
-use Rattle.store.proofs.Cells.{heads_hold, cells_is}
-use Rattle.store.proofs.Gathered.{slots_in, slots_ok, gathered, classed, unnumbered, laid_is, kept_is}
-use Rattle.store.proofs.Whole.{sound_from, laid_in, kept_in}
+use Rattle.plain.proofs.Deciding.{decides_false}
+use Rattle.store.proofs.Gathered.{slots_in}
 use Rattle.site.proofs.Site.sound.Goals as goal
 
 pub returns-then-not-o : goal.returns-then-not-o

@@ -5,7 +5,7 @@ use Rattle.site.specs.Held.{store}
 use Rattle.site.proofs.Shape.{shaped}
 use Rattle.plain.proofs.Deciding.{decides_false, decides_as}
 use Rattle.store.proofs.Cells.{heads_hold, cells_is}
-use Rattle.store.proofs.Gathered.{slots_in, slots_ok, gathered, classed, unnumbered, laid_is, kept_is}
+use Rattle.store.proofs.Gathered.{slots_ok, gathered, classed, unnumbered, laid_is, kept_is}
 use Rattle.store.proofs.Whole.{sound_from, laid_in, kept_in}
 use Rattle.site.proofs.Site.sound_given.Goals as goal
 
