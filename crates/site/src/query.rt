@@ -37,44 +37,42 @@ impl Site {
         ensures { Called (state_of self committed.now working.old) (query mask) (state_of result.site committed.now working.new) (answer_of result.answer []) }
     {
         let no = self.judge_query(committed, &*working, mask);
-        if no != 0 {
-            return Reply {
-                site: self,
-                answer: Answer::Refused(no),
-            };
-        }
-        let firsts = self.firsts_waiting();
-        let table = self.queries;
-        let p = lowest_free(table);
-        self.begun = self.begun + 1;
-        let mut c = 0;
-        while c < cells::CLASSES {
-            if names(mask, c as u32) {
-                let to = firsts[c];
-                let len = self.lens[c];
-                let sum = self.sums[c];
-                if to == 0 {
-                    if len != 0 {
-                        cells::copy_class(working, committed, c);
-                        let i = self.queue[CLASS_PLACES * c] as usize;
-                        let v = self.slots[i];
-                        self.slots[i] = backed(v);
+        let mut answer = Answer::Refused(no);
+        if no == 0 {
+            let firsts = self.firsts_waiting();
+            let table = self.queries;
+            let p = lowest_free(table);
+            self.begun = self.begun + 1;
+            let mut c = 0;
+            while c < cells::CLASSES {
+                if names(mask, c as u32) {
+                    let to = firsts[c];
+                    let len = self.lens[c];
+                    let sum = self.sums[c];
+                    if to == 0 {
+                        if len != 0 {
+                            cells::copy_class(working, committed, c);
+                            let i = self.queue[CLASS_PLACES * c] as usize;
+                            let v = self.slots[i];
+                            self.slots[i] = backed(v);
+                        }
                     }
+                    self.queue[CLASS_PLACES * c + (len as usize)] = SLOT_LIMIT + (p as u8);
+                    self.lens[c] = len + 1;
+                    places::move_forward(&mut self.queue, c, len as usize, to);
+                    let q = self.queries[p];
+                    self.queries[p] = with(q, c as u32, self.confirmations);
+                    self.sums[c] = sum + 1;
                 }
-                self.queue[CLASS_PLACES * c + (len as usize)] = SLOT_LIMIT + (p as u8);
-                self.lens[c] = len + 1;
-                places::move_forward(&mut self.queue, c, len as usize, to);
-                let q = self.queries[p];
-                self.queries[p] = with(q, c as u32, self.confirmations);
-                self.sums[c] = sum + 1;
+                c += 1;
             }
-            c += 1;
+            answer = Answer::Begun {
+                place: (p as u8) + 1,
+            };
         }
         Reply {
             site: self,
-            answer: Answer::Begun {
-                place: (p as u8) + 1,
-            },
+            answer: answer,
         }
     }
 }

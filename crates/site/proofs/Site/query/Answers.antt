@@ -21,15 +21,15 @@ use Rattle.store.proofs.Turns.{Going, Put, room_here, to_fits, sum_here, may_bac
 use Rattle.site.proofs.Site.query.Goals as goal
 use Rattle.site.proofs.Site.query.Goals.{then-names, then-to-eq0+then-len-ne0, then-to-eq0+else-len-ne0, else-to-eq0, else-names}
 
-pub returns-then-no-ne0 : goal.returns-then-no-ne0
-returns-then-no-ne0 c = c.judge_query-no.ensures.refuse c.if-no-ne0.true
+pub returns-else-no-eq0 : goal.returns-else-no-eq0
+returns-else-no-eq0 c = c.judge_query-no.ensures.refuse c.if-no-eq0.false
 
 pub firsts_waiting-firsts-requires : goal.firsts_waiting-firsts-requires
-firsts_waiting-firsts-requires c = (c.judge_query-no.ensures.act c.if-no-ne0.false).sound.laid
+firsts_waiting-firsts-requires c = (c.judge_query-no.ensures.act c.if-no-eq0.true).sound.laid
 
 pub overflow_add-self : goal.overflow_add-self
 overflow_add-self c =
-    record { fits = omega (arith, (c.judge_query-no.ensures.act c.if-no-ne0.false).more) }
+    record { fits = omega (arith, (c.judge_query-no.ensures.act c.if-no-eq0.true).more) }
 
 pub loop-c-init : goal.loop-c-init
 loop-c-init c =
@@ -37,7 +37,7 @@ loop-c-init c =
     let good· = c.well_formed in
     let firsts-waiting· = c.firsts_waiting-firsts in
     let lowest-free· = c.lowest_free-p in
-    let f· = c.judge_query-no.ensures.act c.if-no-ne0.false in
+    let f· = c.judge_query-no.ensures.act c.if-no-eq0.true in
     let small· : the-args.mask < 2 ^ 16 = search rules in (
       omega arith,
       start (state_of the-args.self the-args.committed.now the-args.working.now) (shaped the-args.self _ good·.0) f·.right
@@ -277,22 +277,18 @@ loop-c-preserved c =
       ],
     )
 
-pub overflow_cast-result : goal.overflow_cast-result
-overflow_cast-result c = record { fits = omega (arith, c.loop-c.invariant.1.index) }
+pub overflow_cast-answer : goal.overflow_cast-answer
+overflow_cast-answer c = record { fits = omega (arith, c.loop-c.invariant.1.index) }
 
-pub overflow_add-result : goal.overflow_add-result
-overflow_add-result c = record { fits = omega (arith, c.loop-c.invariant.1.index) }
+pub overflow_add-answer : goal.overflow_add-answer
+overflow_add-answer c = record { fits = omega (arith, c.loop-c.invariant.1.index) }
 
-pub shape_of-working : goal.shape_of-working
-shape_of-working c =
-    omega (arith, c.loop-c.invariant.1.cells, (c.judge_query-no.ensures.act c.if-no-ne0.false).right.1)
-
-pub returns : goal.returns
-returns c =
+pub returns-after-loop-c : goal.returns-after-loop-c
+returns-after-loop-c c =
     let the-args = c.args in
     let lowest-free· = c.lowest_free-p in
     let loop· = c.loop-c in
-    let f· = c.judge_query-no.ensures.act c.if-no-ne0.false in
+    let f· = c.judge_query-no.ensures.act c.if-no-eq0.true in
     let small· : the-args.mask < 2 ^ 16 = search rules in
     called_did _ _ _ _ f·.right f·.sound (begun_is (state_of the-args.self the-args.committed.now the-args.working.now) (shaped the-args.self _
     c.well_formed.0) f·.right f·.sound
