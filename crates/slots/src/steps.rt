@@ -28,13 +28,12 @@ pub fn step(mut v: Slot, from: &[u32], cells: &mut [u32]) -> Slot
 {
     let k = v.done;
     v.done = k + 1;
-    if v.mark != 0 {
-        return v;
-    }
-    let mark = carry_at(v, k, cells);
-    v.mark = mark;
-    if mark != 0 {
-        copy_cells(cells, from);
+    if v.mark == 0 {
+        let mark = carry_at(v, k, cells);
+        v.mark = mark;
+        if mark != 0 {
+            copy_cells(cells, from);
+        }
     }
     v
 }

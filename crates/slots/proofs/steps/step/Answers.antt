@@ -6,12 +6,12 @@ use Rattle.plain.specs.Ops as P
 use Rattle.slots.proofs.Running.{step_as}
 use Rattle.slots.proofs.steps.step.Goals as goal
 
-pub returns-then-v-ne0 : goal.returns-then-v-ne0
-returns-then-v-ne0 c =
+pub returns-else-v-eq0 : goal.returns-else-v-eq0
+returns-else-v-eq0 c =
     let v = c.args.v in
     elim c.requires.4 [
-      | inl z ↦ absurd (c.if-v-ne0.true z)
-      | inr z ↦ step_as v _ _ _ _ (P.declined v.mark) (rw (ne_eqb v.mark 0 c.if-v-ne0.true)) refl z
+      | inl z ↦ absurd (c.if-v-eq0.false z)
+      | inr z ↦ step_as v _ _ _ _ (P.declined v.mark) (rw (ne_eqb v.mark 0 c.if-v-eq0.false)) refl z
     ]
 
 pub carry_at-mark-requires : goal.carry_at-mark-requires
@@ -25,14 +25,14 @@ returns-then-mark-ne0 c =
     let carry = c.carry_at-mark in
     let v = c.args.v in
     let m = carry.result in
-    let if1 = c.if-v-ne0 in
+    let if1 = c.if-v-eq0 in
     let r = ne_eqb m 0 c.if-mark-ne0.true in
-    step_as v _ _ _ m (P.declined m) (rw if1.false (carry.ensures.cells_value ∙ rw r)) refl c.copy_cells.ensures
+    step_as v _ _ _ m (P.declined m) (rw if1.true (carry.ensures.cells_value ∙ rw r)) refl c.copy_cells.ensures
 
 pub returns-else-mark-ne0 : goal.returns-else-mark-ne0
 returns-else-mark-ne0 c =
     let carry = c.carry_at-mark in
     let v = c.args.v in
-    let if1 = c.if-v-ne0 in
+    let if1 = c.if-v-eq0 in
     let r = c.if-mark-ne0.false in
-    step_as v _ _ _ carry.result (P.carried _) (rw if1.false (carry.ensures.cells_value ∙ rw r)) r refl
+    step_as v _ _ _ carry.result (P.carried _) (rw if1.true (carry.ensures.cells_value ∙ rw r)) r refl
