@@ -153,7 +153,7 @@ fn all_match<'a>(
     true
 }
 
-// The kept ids and their marks.
+// The kept ids and their marks, in one struct: so they take less stack.
 #[derive(Clone, Copy)]
 struct Seen {
     kept: [u32; KEPT],

@@ -1,5 +1,4 @@
--- `Site::sound` meets its contract: each piece decides its rules, over the fields gathered into lists, and the rules together are soundness.
--- Assumes nothing.
+-- `Site::sound` meets its contract: where the slots are not in order the site is not sound, and where they are `sound_given` decides. Assumes nothing.
 use Rattle.site.specs.Held.{store}
 use Rattle.site.proofs.Shape.{shaped}
 use Rattle.plain.proofs.Deciding.{decides_false}

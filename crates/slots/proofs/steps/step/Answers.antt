@@ -25,14 +25,14 @@ returns-then-mark-ne0 c =
     let carry = c.carry_at-mark in
     let v = c.args.v in
     let m = carry.result in
-    let if1 = c.if-v-eq0 in
+    let untried = c.if-v-eq0.true in
     let r = ne_eqb m 0 c.if-mark-ne0.true in
-    step_as v _ _ _ m (P.declined m) (rw if1.true (carry.ensures.cells_value ∙ rw r)) refl c.copy_cells.ensures
+    step_as v _ _ _ m (P.declined m) (rw untried (carry.ensures.cells_value ∙ rw r)) refl c.copy_cells.ensures
 
 pub returns-else-mark-ne0 : goal.returns-else-mark-ne0
 returns-else-mark-ne0 c =
     let carry = c.carry_at-mark in
     let v = c.args.v in
-    let if1 = c.if-v-eq0 in
+    let untried = c.if-v-eq0.true in
     let r = c.if-mark-ne0.false in
-    step_as v _ _ _ carry.result (P.carried _) (rw if1.true (carry.ensures.cells_value ∙ rw r)) r refl
+    step_as v _ _ _ carry.result (P.carried _) (rw untried (carry.ensures.cells_value ∙ rw r)) r refl
