@@ -1,72 +1,61 @@
 // "Every used slot stands exactly once, in the queue of its class, and no free slot stands in one"; "every entry belongs to an open query, and an open
 // query has one entry or more, one at most in each": what stands at the places is taken from what may stand, and at the end nothing is left.
-ghost use Rattle.std.specs.Prelude.{◌≡◌, ◌<◌, ◌≤◌, length};
-ghost use Rattle.plain.specs.Sizes.{query_count};
+ghost use Rattle.std.specs.Prelude.{◌<◌, ◌≤◌};
 ghost use Rattle.plain.specs.Decides.{Decides};
-ghost use Rattle.store.specs.Store.{place_count};
-ghost use Rattle.store.specs.Sound.{Short};
-ghost use Rattle.store.specs.Checks.{nth, flag_of, Classed, OnceIn, OneTaken, EntryTaken, ClassTaken, NamesNone, AllRead};
+ghost use Rattle.store.specs.Checks.{nth, flag_of, OnceIn, NamesNone, AllRead};
+ghost use Rattle.checks.specs.Once.{OneTaken, EntryTaken, ClassTaken, NoneUsed};
 
-use crate::{CLASS_PLACES, LONGEST, PLACES, QUERIES, SLOT_LIMIT, SLOTS};
+use crate::queues::Queues;
+use crate::{LONGEST, Owners, QUERIES, SLOT_LIMIT, SLOTS};
 use cells::CLASSES;
 use queries::{Query, names, without_class};
 use usedmap::UsedMap;
 
-// What may still stand in the queues: each slot that is marked, in its class, and each query in the classes that it has still to read; not ok where
-// something stood that may not.
+// What may still stand in the queues: each slot that is marked, in its class, and each query in the classes that it has still to read.
 #[derive(Clone, Copy)]
 pub struct Unseen {
-    pub ok: bool,
-    pub lo: u64,
-    pub hi: u64,
+    pub map: UsedMap,
     pub table: [Query; QUERIES],
 }
 
-// What may stand after a slot stood in the queue of class c.
-fn take_slot(classes: &[u8; SLOTS], mut u: Unseen, c: u8, b: u8) -> Unseen
+// Whether a slot may stand in the queue of class c; if so, it is taken.
+fn take_slot(classes: &[u8; SLOTS], u: &mut Unseen, c: u8, b: u8) -> bool
     requires { b < 128 }
-    ensures { OneTaken (nth classes.now) u.lo u.hi u.table c b result.ok result.lo result.hi result.table }
+    ensures { OneTaken (nth classes.now) u.old c b result u.new }
 {
-    u.ok = false;
     let i = b as usize;
     if classes[i] != c {
-        return u;
+        return false;
     }
-    let map = UsedMap { lo: u.lo, hi: u.hi };
-    if !map.is_used(b as u32) {
-        return u;
+    if !u.map.is_used(b as u32) {
+        return false;
     }
-    let rest = map.with_free(b as u32);
-    u.lo = rest.lo;
-    u.hi = rest.hi;
-    u.ok = true;
-    u
+    u.map = u.map.with_free(b as u32);
+    true
 }
 
-// What may stand after an entry stood there.
-fn take_entry(mut u: Unseen, c: u8, b: u8) -> Unseen
+// The same of an entry.
+fn take_entry(u: &mut Unseen, c: u8, b: u8) -> bool
     requires { (128 ≤ b) × (c < 16) }
-    ensures { EntryTaken u.lo u.hi u.table c b result.ok result.lo result.hi result.table }
+    ensures { EntryTaken u.old c b result u.new }
 {
-    u.ok = false;
     if LONGEST <= b {
-        return u;
+        return false;
     }
     let p = (b - SLOT_LIMIT) as usize;
     let mut q = u.table[p];
     if !names(q.classes, c as u32) {
-        return u;
+        return false;
     }
     q.classes = without_class(q.classes, c as u32);
     u.table[p] = q;
-    u.ok = true;
-    u
+    true
 }
 
-// What may stand after b stood there, a slot or an entry.
-fn take_one(classes: &[u8; SLOTS], u: Unseen, c: u8, b: u8) -> Unseen
+// The same of b, a slot or an entry.
+fn take_one(classes: &[u8; SLOTS], u: &mut Unseen, c: u8, b: u8) -> bool
     requires { c < 16 }
-    ensures { OneTaken (nth classes.now) u.lo u.hi u.table c b result.ok result.lo result.hi result.table }
+    ensures { OneTaken (nth classes.now) u.old c b result u.new }
 {
     if b < SLOT_LIMIT {
         return take_slot(classes, u, c, b);
@@ -74,29 +63,24 @@ fn take_one(classes: &[u8; SLOTS], u: Unseen, c: u8, b: u8) -> Unseen
     take_entry(u, c, b)
 }
 
-// What may stand after the first `len` places of class c.
-fn class_once<'a>(
-    classes: &'a [u8; SLOTS],
-    queue: &'a [u8; PLACES],
-    all: Unseen,
-    c: usize,
-    len: usize,
-) -> Unseen
-    requires { (c < 16) × (len ≤ 136) × (length queue.now ≡ place_count) }
-    ensures { ClassTaken (nth classes.now) all.lo all.hi all.table queue.now c len result.ok result.lo result.hi result.table }
+// The same of all that stands in the queue of class c.
+fn class_once(classes: &[u8; SLOTS], queues: &Queues, u: &mut Unseen, c: usize) -> bool
+    requires { c < 16 }
+    ensures { ClassTaken (nth classes.now) u.old queues.now.places.now c (nth queues.now.lens.now c) result u.new }
 {
-    let mut u = all;
-    u.ok = true;
-    let mut p = 0;
-    while p < len {
-        let b = queue[CLASS_PLACES * c + p];
-        u = take_one(classes, u, c as u8, b);
-        if !u.ok {
-            return u;
+    for b in queues.queue(c) {
+        if !take_one(classes, u, c as u8, *b) {
+            return false;
         }
-        p += 1;
     }
-    u
+    true
+}
+
+// Whether no slot is marked.
+fn none_used(map: UsedMap) -> bool
+    ensures { Decides result (NoneUsed map.lo map.hi) }
+{
+    map.lo == 0 && map.hi == 0
 }
 
 // Whether a mask names no class.
@@ -107,53 +91,21 @@ fn names_none(mask: u16) -> bool
 }
 
 // Whether no query has a class still to read.
-fn all_read(table: [Query; QUERIES]) -> bool
-    ensures { Decides result (AllRead table) }
+fn all_read(table: &[Query; QUERIES]) -> bool
+    ensures { Decides result (AllRead table.now) }
 {
-    let mut p = 0;
-    while p < QUERIES {
-        let q = table[p];
-        if !names_none(q.classes) {
-            return false;
-        }
-        p += 1;
-    }
-    true
+    table.iter().all(|q| names_none(q.classes))
 }
 
-// Whether what may stand in the queues stands there, and as often: `low` and `high` are the map of used slots.
-pub fn each_once<'a>(
-    classes: &'a [u8; SLOTS],
-    queue: &'a [u8; PLACES],
-    lens: &'a [u8; CLASSES],
-    table: [Query; QUERIES],
-    low: u64,
-    high: u64,
-) -> bool
-    requires { (length queue.now ≡ place_count) × (length table ≡ query_count) × Short lens.now × Classed (nth classes.now) }
-    ensures { Decides result (OnceIn (flag_of low high) (nth classes.now) table queue.now lens.now) }
+// Whether what may stand in the queues stands there, and as often.
+pub fn each_once(owners: &Owners, queues: &Queues, table: [Query; QUERIES], map: UsedMap) -> bool
+    ensures { Decides result (OnceIn (flag_of map.lo map.hi) (nth owners.now.classes) table queues.now.places.now queues.now.lens.now) }
 {
-    let mut u = Unseen {
-        ok: true,
-        lo: low,
-        hi: high,
-        table: table,
-    };
-    let mut c = 0;
-    while c < CLASSES {
-        let len = lens[c] as usize;
-        u = class_once(classes, queue, u, c, len);
-        if !u.ok {
+    let mut u = Unseen { map, table };
+    for c in 0..CLASSES {
+        if !class_once(&owners.classes, queues, &mut u, c) {
             return false;
         }
-        c += 1;
     }
-    if u.lo != 0 {
-        return false;
-    }
-    if u.hi != 0 {
-        return false;
-    }
-    let rest = u.table;
-    all_read(rest)
+    none_used(u.map) && all_read(&u.table)
 }

@@ -4,22 +4,19 @@ use Prim.Native.Nat.{ℕ, zero, suc, ◌+◌, ◌-◌, ◌*◌, ◌/◌, ◌%◌
 use native.Mathlib.Omega.{arith}
 use native.Mathlib.Numerals.{add-one}
 use mathlib.Core.Path.{◌≡◌, refl, sym, ap, ◌∙◌, subst}
-use mathlib.Core.Bool.{true, false}
 use mathlib.Core.List.{List, [], ◌∷◌, ◌++◌, append_assoc}
 use lib.Dec.{ltb}
 use lib.ListN.{length, get_or, drop, length-append, length-drop}
 use lib.Seq.{drop-cons}
 use borrow.Author.Tests.{ltb-true, ltb-false, lt-ltb}
+use Rattle.std.specs.Prelude.{Some, None}
 use Rattle.io.specs.Digits.{hex_digit_ascii}
 use Rattle.plain.specs.Sound.{All}
-use Rattle.plain.proofs.Tests.{by_test, no}
-use Rattle.decimal.specs.Decimal.{count, decimal, NumberAt, EndsAt}
+use Rattle.plain.proofs.Tests.{by_test}
+use Rattle.decimal.specs.Decimal.{count, decimal, Digit, NoNumber, EndsAt}
 use Rattle.decimal.proofs.Digits.{small, larger, count_fewest, is_decimal}
 
 -- DIGIT BY DIGIT
-abbrev pub Digit : ℕ → Type 0
-Digit d = (48 ≤ d) × (d ≤ 57)
-
 glyph_is : (d : ℕ) → d < 10 → hex_digit_ascii d ≡ 48 + d
 glyph_is d h = rw (lt-ltb d 10 h)
 
@@ -150,16 +147,18 @@ at_most =
     more v d (suc zero) h g p m = absurd (omega arith)
     more v d (suc (suc j)) h g p m = omega (arith, p (suc j) (omega arith) (omega arith), length-append (decimal v) ((48 + d) ∷ []))
 
+-- one digit more
+pub longer : (v d : ℕ) (r l : List ℕ) → d < 10 → 0 < v → l ≡ decimal v ++ ((48 + d) ∷ r) → l ≡ decimal (10 * v + d) ++ r
+longer v d r l k h p =
+    p ∙ sym (append_assoc (decimal v) ((48 + d) ∷ []) r) ∙ ap (λ (t : List ℕ). t ++ r) (sym (digit_more v d h k))
+
 -- WHERE NO NUMBER STANDS: none up to `most`, with a stop behind it
 module _ (stop most : ℕ) (not_digit : Digit stop → ⊥) where
-  abbrev pub NoNumber : List ℕ → Type 0
-  NoNumber l = (n : ℕ) (more : List ℕ) → n ≤ most → l ≡ decimal n ++ (stop ∷ more) → ⊥
-
   -- no digit comes first
-  pub no_text : NoNumber []
+  pub no_text : NoNumber stop most []
   no_text n more h e = let f = front n in let z : ◌≡◌ {A = ℕ} 0 1 = cc f.is in omega arith
 
-  pub no_digit : (x : ℕ) (l : List ℕ) → (Digit x → ⊥) → NoNumber (x ∷ l)
+  pub no_digit : (x : ℕ) (l : List ℕ) → (Digit x → ⊥) → NoNumber stop most (x ∷ l)
   no_digit x l k n more h e =
       let f = front n in
       let p : x ∷ l ≡ (f.first ∷ f.rest) ++ (stop ∷ more) = e ∙ ap (λ (t : List ℕ). t ++ (stop ∷ more)) f.is in
@@ -167,18 +166,18 @@ module _ (stop most : ℕ) (not_digit : Digit stop → ⊥) where
       k (subst Digit q f.digit)
 
   -- a number stands there, and then the text ends, or goes on with neither a digit nor the stop
-  pub ended : (v : ℕ) (l : List ℕ) → l ≡ decimal v ++ [] → NoNumber l
+  pub ended : (v : ℕ) (l : List ℕ) → l ≡ decimal v ++ [] → NoNumber stop most l
   ended v l p n more h e =
       let i = in_front (decimal v) [] (decimal n) stop more (all_digits v) not_digit (sym p ∙ e) in
       let q : length (decimal v ++ []) ≡ length (decimal n ++ (stop ∷ more)) = ap length (sym p ∙ e) in
       let j : length (decimal n) ≡ length (decimal v ++ i.0) = ap length i.1 in
       omega (arith, length-append (decimal v) [], length-append (decimal n) (stop ∷ more), length-append (decimal v) i.0)
 
-  pub stopped : (v x : ℕ) (r l : List ℕ) → (Digit x → ⊥) → (x ≡ stop → ⊥) → l ≡ decimal v ++ (x ∷ r) → NoNumber l
+  pub stopped : (v x : ℕ) (r l : List ℕ) → (Digit x → ⊥) → (x ≡ stop → ⊥) → l ≡ decimal v ++ (x ∷ r) → NoNumber stop most l
   stopped v x r l k ne p n more h e = ne (same_number v n x stop r more k not_digit (sym p ∙ e)).1
 
   -- a zero in front, and a number too large
-  pub zero_first : (x : ℕ) (r l : List ℕ) → Digit x → l ≡ decimal 0 ++ (x ∷ r) → NoNumber l
+  pub zero_first : (x : ℕ) (r l : List ℕ) → Digit x → l ≡ decimal 0 ++ (x ∷ r) → NoNumber stop most l
   zero_first x r l k p n more h e =
       let z : l ≡ (48 ∷ x ∷ []) ++ r = p ∙ ap (λ (t : List ℕ). t ++ (x ∷ r)) (one_digit 0 (omega arith)) in
       let i = in_front (48 ∷ x ∷ []) r (decimal n) stop more ((omega arith, omega arith), (k, tt)) not_digit (sym z ∙ e) in
@@ -189,41 +188,22 @@ module _ (stop most : ℕ) (not_digit : Digit stop → ⊥) where
       let w : length {A = ℕ} (48 ∷ []) ≡ length (48 ∷ x ∷ i.0) = ap length (sym o ∙ i.1) in
       omega arith
 
-  pub too_large : (v x : ℕ) (r l : List ℕ) → Digit x → 0 < v → most < 10 * v + (x - 48) → l ≡ decimal v ++ (x ∷ r) → NoNumber l
-  too_large v x r l k h m p n more g e =
-      let d : 48 + (x - 48) ≡ x = omega arith in
-      let w : decimal (10 * v + (x - 48)) ≡ decimal v ++ (x ∷ []) =
-      digit_more v (x - 48) h (omega arith) ∙ ap (λ (y : ℕ). decimal v ++ (y ∷ [])) d in
-      let z : decimal (10 * v + (x - 48)) ++ r ≡ decimal n ++ (stop ∷ more) =
-      ap (λ (t : List ℕ). t ++ r) w ∙ append_assoc (decimal v) (x ∷ []) r ∙ sym p ∙ e in
-      let i = in_front (decimal (10 * v + (x - 48))) r (decimal n) stop more (all_digits (10 * v + (x - 48))) not_digit z in
-      omega (arith, no_smaller (10 * v + (x - 48)) n i.0 i.1)
-
-  -- what reading came to
-  pub refuse : (l rest : List ℕ) → NoNumber l → NumberAt l stop most false 0 rest
-  refuse l rest h = record { small = omega arith; stands = λ e. no _ e refl; none = λ e. h }
-
-  pub accept : (l rest : List ℕ) (v : ℕ) → v ≤ most → l ≡ decimal v ++ (stop ∷ rest) → NumberAt l stop most true v rest
-  accept l rest v h p = record { small = h; stands = λ e. p; none = λ e. no _ refl e }
-
-  -- one digit more
-  pub longer : (v x : ℕ) (r l : List ℕ) → Digit x → 0 < v → l ≡ decimal v ++ (x ∷ r) → l ≡ decimal (10 * v + (x - 48)) ++ r
-  longer v x r l k h p =
-      let d : 48 + (x - 48) ≡ x = omega arith in
-      p ∙ sym (append_assoc (decimal v) (x ∷ []) r)
-      ∙ ap (λ (t : List ℕ). t ++ r) (ap (λ (y : ℕ). decimal v ++ (y ∷ [])) (sym d) ∙ sym (digit_more v (x - 48) h (omega arith)))
+  pub too_large : (v d : ℕ) (r l : List ℕ) → d < 10 → 0 < v → most < 10 * v + d → l ≡ decimal v ++ ((48 + d) ∷ r) → NoNumber stop most l
+  too_large v d r l k h m p n more g e =
+      let i = in_front (decimal (10 * v + d)) r (decimal n) stop more (all_digits (10 * v + d)) not_digit (sym (longer v d r l k h p) ∙ e) in
+      omega (arith, no_smaller (10 * v + d) n i.0 i.1)
 
 -- the byte at a place of a text stands before the rest
 pub at_place : (text : List ℕ) (i : ℕ) → i < length text → drop i text ≡ get_or text i 0 ∷ drop (i + 1) text
 at_place text i h = rw add-one (drop-cons text i 0 h)
 
 -- WHERE READING ENDS
-pub stayed : (at : ℕ) → EndsAt at false 0 at
-stayed at = record { past = λ t. no _ t refl; stays = λ f. (refl, refl) }
+pub stayed : (at : ℕ) → EndsAt at None
+stayed at = record { past = tt; stays = refl }
 
-pub went_past : (text : List ℕ) (at i value : ℕ) → at ≤ length text → i < length text → drop at text ≡ decimal value ++ drop i text
-    → EndsAt at true value (i + 1)
+pub went_past : (text : List ℕ) (at i : ℕ) (value : ℕ) → at ≤ length text → i < length text → drop at text ≡ decimal value ++ drop i text
+    → EndsAt at (Some (record { value = value; next = i + 1 }))
 went_past text at i value l k e = record {
-  past = λ t. omega (arith, ap length e, length-drop at text, length-drop i text, length-append (decimal value) (drop i text));
-  stays = λ f. no _ refl f;
+  past = omega (arith, ap length e, length-drop at text, length-drop i text, length-append (decimal value) (drop i text));
+  stays = tt;
 }

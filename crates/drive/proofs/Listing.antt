@@ -1,5 +1,5 @@
 -- Listing goes on from event to event and from block to block, and a run from fresh with it. Assumes nothing.
-use Rattle.std.proofs.Common.{◌≡◌, ℕ, suc, ◌+◌, ◌-◌, ◌*◌, ◌%◌, ◌^◌, ◌<◌, ◌≤◌, List, [], ◌∷◌, ◌++◌, length, take, drop, sym, refl, ap, ◌∙◌, subst, append_assoc, append-nil, arith, length-append}
+use Rattle.std.proofs.Common.{min, drop_of_length-le, ◌≡◌, ℕ, suc, ◌+◌, ◌*◌, ◌%◌, ◌^◌, ◌<◌, ◌≤◌, List, [], ◌∷◌, ◌++◌, length, sym, refl, ap, ◌∙◌, subst, append_assoc, append-nil, arith, length-append}
 use mathlib.Core.Option.{Option, none, some}
 use Rattle.plain.specs.Steps.{refused}
 use Rattle.plain.specs.Site.{Call}
@@ -9,8 +9,8 @@ use Rattle.line.specs.Text.{line_of}
 use Rattle.event.specs.Event.{event_size, bad_event, call_of, Listed}
 use Rattle.event.proofs.Events.{no_event}
 use Rattle.input.specs.Pieces.{behind}
-use Rattle.input.proofs.Cutting.{no_piece, piece_at, none_at, short_at, pieces_append}
-use Rattle.drive.specs.Listing.{events_of, ListsOne, Lists, done, next, asked, calls_of, Ran}
+use Rattle.input.proofs.Cutting.{no_piece, next_piece, pieces_append}
+use Rattle.drive.specs.Listing.{events_of, ListsOne, Lists, done, next, asked, calls_of, Ran, RanTo}
 
 -- SO FAR: from x the events led to y, and those that are left go on from there
 pub record SoFar (x : State) (place : ℕ) (bs : List (List ℕ)) (y : State) (then : ℕ) (text : List ℕ) (rest : List (List ℕ)) : Type 0 where
@@ -38,28 +38,29 @@ module _ (x : State) (place : ℕ) (bs : List (List ℕ)) (y : State) (then : �
   pub counted : then < 2 ^ 64 → SoFar x place bs y then text [] → then ≡ behind place (length bs)
   counted l h = sym (h.counts ∙ omega arith)
 
--- WALKING OVER AN INPUT: where listing stands when the first `at` bytes are behind
-abbrev pub Stands : (x : State) (input : List ℕ) (place at : ℕ) (y : State) (then : ℕ) (text : List ℕ) → Type 0
-Stands x input place at y then text = SoFar x place (events_of input) y then text (events_of (drop at input))
+-- WALKING OVER AN INPUT: the events of what is left, of which b comes off
+pub comes_next : (left b rest : List ℕ) (size : ℕ) → size ≡ event_size → left ≡ b ++ rest → length b ≡ min size (length left) → 0 < length left
+    → events_of left ≡ b ∷ events_of rest
+comes_next left b rest size s e l h =
+    let m : length b ≡ min event_size (length (b ++ rest)) = rw (s, e) at l in
+    ap events_of e ∙ next_piece event_size (omega arith) b rest m (rw e at h)
 
-module _ (x : State) (input : List ℕ) (place at : ℕ) (y : State) (then : ℕ) (text : List ℕ) (h : Stands x input place at y then text) where
-  -- a whole event was made
-  pub walked : (z : State) (after : List ℕ) (p : ℕ) → at + event_size ≤ length input → p ≡ behind then 1
-      → ListsOne y then (take (at + event_size - at) (drop at input)) z text after → Stands x input place (at + event_size) z p after
-  walked z after p l e one =
-      one_more x place (events_of input) y then text (take (at + event_size - at) (drop at input)) (events_of (drop (at + event_size) input)) z after p e one
-      (rw (piece_at event_size (omega arith) input at l) at h)
+-- and where nothing is left
+pub none_left : (left : List ℕ) → length left ≡ 0 → events_of left ≡ []
+none_left left l = ap events_of (drop_of_length-le left {i = 0} (omega arith)) ∙ no_piece event_size (omega arith)
 
-  -- the last one is short
-  pub short_one : (z : State) (after : List ℕ) (p : ℕ) → at < length input → length input < at + event_size → p ≡ behind then 1
-      → ListsOne y then (take (length input - at) (drop at input)) z text after → SoFar x place (events_of input) z p after []
-  short_one z after p l k e one =
-      one_more x place (events_of input) y then text (take (length input - at) (drop at input)) [] z after p e one
-      (rw (short_at event_size (omega arith) input at l k) at h)
+-- room for the lines: what is left of a block, two bytes of a line for each of its bytes, fits behind len; at its end a line more may stand, that of a
+-- short event
+pub record Room (len left : ℕ) : Type 0 where
+  pub ahead : 0 < left → len + 2 * left ≤ 64800
+  pub most : len ≤ 64944
 
-  -- none is left
-  pub none_left : length input ≤ at → SoFar x place (events_of input) y then text []
-  none_left l = rw (none_at event_size (omega arith) input at l) at h
+pub room_on : (len then left : ℕ) (b rest : List ℕ) (size : ℕ) → size ≡ event_size → left ≡ length (b ++ rest) → length b ≡ min size left → 0 < left
+    → then ≤ len + 144 → Room len left → Room then (length rest)
+room_on len then left b rest size s e l h m r =
+    let k : left ≡ length b + length rest = e ∙ length-append b rest in
+    let i : length b ≡ min event_size left = rw s at l in
+    record { ahead = λ p. omega (arith, r.ahead h); most = omega (arith, r.ahead h) }
 
 -- FROM BLOCK TO BLOCK: events and those behind them
 pub lists_append : {x y z : State} {place : ℕ} {bs cs : List (List ℕ)} {text more : List ℕ} → Lists x place bs y text
@@ -108,6 +109,36 @@ goes_on x read y place text block z then more k l r m e =
       from_fresh = rw (s, calls_append events bs []) (fresh_on (calls_of events []) m r.from_fresh);
       counts = e ∙ rw (r.counts, s, length-append events bs) (omega arith);
     }
+
+-- what was read so far is whole events, and led from x to y
+pub record Whole (x y : State) (then : ℕ) : Type 0 where
+  pub read : List ℕ
+  pub lines : List ℕ
+  pub count : ℕ
+  pub whole : length read ≡ event_size * count
+  pub ran : Ran x read y then lines
+
+pub none_read : (x : State) → FromFresh [] x → Whole x x 1
+none_read x f = record { read = []; lines = []; count = 0; whole = refl; ran = begun x f }
+
+module _ (x y : State) (place : ℕ) (h : Whole x y place) (block : List ℕ) (z : State) (then : ℕ) (more : List ℕ) (m : Lists y place (events_of block) z more)
+    (e : then ≡ behind place (length (events_of block))) where
+  -- a block more
+  block_on : Ran x (h.read ++ block) z then (h.lines ++ more)
+  block_on = goes_on x h.read y place h.lines block z then more h.count h.whole h.ran m e
+
+  pub ran_to : RanTo x z
+  ran_to = (_, _, _, block_on)
+
+  -- and that is a full one
+  pub whole_on : (k : ℕ) → length block ≡ event_size * k → Whole x z then
+  whole_on k l = record {
+    read = h.read ++ block;
+    lines = h.lines ++ more;
+    count = h.count + k;
+    whole = length-append h.read block ∙ omega (arith, h.whole);
+    ran = block_on;
+  }
 
 -- A SHORT EVENT is refused with 13, and touches nothing; only the last of an input can be short (`input` proofs Cutting, `whole_but_last`)
 pub short_is_refused : (x : State) (place : ℕ) (b : List ℕ) (y : State) (line : List ℕ) → length b < event_size → Listed x place b y line

@@ -5,18 +5,16 @@
 ghost use Rattle.std.specs.Prelude.{◌≡◌, ◌+◌, ◌≤◌, [], ◌++◌, length, take, drop};
 ghost use Rattle.site.specs.Held.{state_of};
 ghost use Rattle.promises.specs.Runs.{FromFresh};
-ghost use Rattle.line.specs.Text.{written};
 ghost use Rattle.input.specs.Pieces.{behind};
 ghost use Rattle.drive.specs.Listing.{events_of, ListsOne, Lists, RanTo};
 
 use decimal::put;
 use event::{EVENT, answer_event};
 use input::{fill, whole};
-use line::Line;
 use site::Site;
 use std::io::Read;
-use std::num::wrapping_add_u64;
 
+// kept: the system's numbers; no crate below the programs has to do with files.
 const STDOUT_FILENO: i32 = 1;
 
 const STDERR_FILENO: i32 = 2;
@@ -25,6 +23,7 @@ const STDERR_FILENO: i32 = 2;
 const BLOCK: usize = 32400;
 
 // The site after an event, and how many bytes the text has with its line.
+// kept: the text is io's large buffer, of a fixed length, so how many of its bytes are lines stands beside it
 #[derive(Clone, Copy)]
 struct Listed {
     site: Site,
@@ -37,19 +36,6 @@ struct Block {
     site: Site,
     len: usize,
     place: u64,
-}
-
-// Puts a line into a text behind its first len bytes, and answers how long the text is then.
-fn append(text: &mut [u8], len: usize, line: Line) -> usize
-    requires len_in_bounds { len + 144 ≤ length text.old }
-    requires len_bound { line.len ≤ 144 }
-    ensures value { result ≡ len + line.len }
-    ensures text_after { take result text.new ≡ take len text.old ++ written line }
-    ensures text_unchanged { drop result text.new ≡ drop result text.old }
-{
-    let bytes = line.bytes;
-    let n = line.len;
-    put(text, len, &bytes[..n])
 }
 
 // Makes an event, and puts its line into a text of len bytes.
@@ -67,12 +53,9 @@ fn list_event(
     ensures len_bound { result.len ≤ len + 144 }
 {
     let done = answer_event(site, committed, working, place, event);
-    let next = done.site;
-    let line = done.line;
-    let behind = append(text, len, line);
     Listed {
-        site: next,
-        len: behind,
+        site: done.site,
+        len: put(text, len, done.line.as_slice()),
     }
 }
 
@@ -91,26 +74,13 @@ fn list_block(
     ensures place_value { result.place ≡ behind first (length (events_of input.now)) }
     ensures len_bound { result.len ≤ 65536 }
 {
-    let n = input.len();
     let mut place = first;
     let mut len = 0;
-    let mut at = 0;
-    while at + EVENT <= n {
-        let end = at + EVENT;
-        let listed = list_event(site, committed, working, place, &input[at..end], text, len);
+    for event in input.chunks(EVENT) {
+        let listed = list_event(site, committed, working, place, event, text, len);
         site = listed.site;
         len = listed.len;
-        place = wrapping_add_u64(place, 1);
-        at = end;
-    }
-    if at < n {
-        let listed = list_event(site, committed, working, place, &input[at..n], text, len);
-        let last = listed.site;
-        return Block {
-            site: last,
-            len: listed.len,
-            place: wrapping_add_u64(place, 1),
-        };
+        place = place.wrapping_add(1);
     }
     Block {
         site: site,
@@ -133,6 +103,7 @@ fn write_lines(lines: &[u8], failed: bool) -> bool {
 }
 
 // Block after block, until the input ends or cannot be read, or the lines cannot be written; hands back the site at the end.
+// kept: the loops of drive, shown and typed differ in what is left of a block and in what is known of a run (`Ran`), which a closure would hide
 fn run<R: Read>(stdin: &mut R, mut site: Site, committed: &mut [u32], working: &mut [u32]) -> Site
     requires { FromFresh [] (state_of site committed.old working.old) }
     ensures { RanTo (state_of site committed.old working.old) (state_of result committed.new working.new) }
@@ -140,8 +111,7 @@ fn run<R: Read>(stdin: &mut R, mut site: Site, committed: &mut [u32], working: &
     let mut input = [0u8; BLOCK];
     let mut text = io::large_buffer();
     let mut place: u64 = 1;
-    let mut turns = u64::MAX;
-    while turns > 0 {
+    for _ in 0..u64::MAX {
         let got = fill(stdin, &mut input);
         let n = whole(got, EVENT);
         let block = list_block(site, committed, working, place, &input[..n], &mut text);
@@ -153,7 +123,6 @@ fn run<R: Read>(stdin: &mut R, mut site: Site, committed: &mut [u32], working: &
         if n < BLOCK {
             return site;
         }
-        turns -= 1;
     }
     site
 }

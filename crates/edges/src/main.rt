@@ -3,59 +3,42 @@
 
 use site::{Answer, Site};
 
-// Writes the answer's word and its numbers, and ends the line.
-fn show(a: Answer) {
-    match a {
-        Answer::Refused(n) => {
-            io::write_all(1, b" refused ");
-            io::print_decimal(1, n as u64);
-        }
+// Writes a word and numbers, and ends the line.
+fn say(word: &[u8], numbers: &[u64]) {
+    io::write_all(1, word);
+    for n in numbers {
+        io::write_all(1, b" ");
+        io::print_decimal(1, *n);
+    }
+    io::write_all(1, b"\n");
+}
+
+// Writes the answer's word and its numbers.
+fn show(answer: Answer) {
+    match answer {
+        Answer::Refused(n) => say(b" refused", &[n as u64]),
         Answer::Queued {
             id,
             class,
             place,
             slot,
-        } => {
-            io::write_all(1, b" queued ");
-            io::print_decimal(1, id as u64);
-            io::write_all(1, b" ");
-            io::print_decimal(1, class as u64);
-            io::write_all(1, b" ");
-            io::print_decimal(1, place as u64);
-            io::write_all(1, b" ");
-            io::print_decimal(1, slot as u64);
-        }
+        } => say(
+            b" queued",
+            &[id as u64, class as u64, place as u64, slot as u64],
+        ),
         Answer::Committed {
             id,
             number,
             mark,
             slot,
             backs,
-        } => {
-            io::write_all(1, b" committed ");
-            io::print_decimal(1, id as u64);
-            io::write_all(1, b" ");
-            io::print_decimal(1, number as u64);
-            io::write_all(1, b" ");
-            io::print_decimal(1, mark as u64);
-            io::write_all(1, b" ");
-            io::print_decimal(1, slot as u64);
-            io::write_all(1, b" ");
-            io::print_decimal(1, backs);
-        }
-        Answer::Waiting { id, w, back } => {
-            io::write_all(1, b" waiting ");
-            io::print_decimal(1, id as u64);
-            io::write_all(1, b" ");
-            io::print_decimal(1, w as u64);
-            io::write_all(1, b" ");
-            io::print_decimal(1, back as u64);
-        }
-        _ => {
-            io::write_all(1, b" other");
-        }
+        } => say(
+            b" committed",
+            &[id as u64, number as u64, mark as u64, slot as u64, backs],
+        ),
+        Answer::Waiting { id, w, back } => say(b" waiting", &[id as u64, w as u64, back as u64]),
+        _ => say(b" other", &[]),
     }
-    io::write_all(1, b"\n");
 }
 
 // A record of n operations, each adding 1 to a cell, in a class, under an id.
@@ -64,15 +47,11 @@ fn booking(id: u8, class: u8, n: u8, cell: u8) -> [u8; 64] {
     b[0] = id;
     b[4] = class;
     b[5] = n;
-    let mut k: u8 = 0;
-    while k < 7 {
-        if k < n {
-            let at = 8 + 8 * (k as usize);
-            b[at] = 2;
-            b[at + 1] = cell;
-            b[at + 4] = 1;
-        }
-        k += 1;
+    for k in 0..n.min(7) {
+        let at = 8 + 8 * (k as usize);
+        b[at] = 2;
+        b[at + 1] = cell;
+        b[at + 4] = 1;
     }
     b
 }
@@ -89,11 +68,8 @@ fn moving(cell: u8, second: u8) -> [u8; 64] {
 fn offered(bytes: &[u8]) {
     let mut committed = [0u32; 1024];
     let mut working = [0u32; 1024];
-    let start = Site::fresh(&mut committed, &mut working);
-    let site = start.site;
-    let r = site.offer(&committed, &working, bytes);
-    let a = r.answer;
-    show(a);
+    let site = Site::fresh(&mut committed, &mut working).site;
+    show(site.offer(&committed, &working, bytes).answer);
 }
 
 // The edges of a record, the one that is refused before the one that is taken.
@@ -138,20 +114,16 @@ fn lengths(bytes: &[u8]) {
 fn one_more(site: Site, committed: &[u32], working: &[u32], n: u8, class: u8) -> Site {
     let b = booking(n, class, 1, 0);
     let r = site.offer(committed, working, &b);
-    let a = r.answer;
-    show(a);
+    show(r.answer);
     r.site
 }
 
 // A site with requests 1 to 127, in the classes in turn.
 fn nearly_full(start: Site, committed: &[u32], working: &[u32]) -> Site {
     let mut site = start;
-    let mut n: u8 = 1;
-    while n < 128 {
+    for n in 1..128 {
         let b = booking(n, n % 16, 1, 0);
-        let r = site.offer(committed, working, &b);
-        site = r.site;
-        n += 1;
+        site = site.offer(committed, working, &b).site;
     }
     site
 }
@@ -166,12 +138,10 @@ fn full_house(committed: &mut [u32], working: &mut [u32]) {
     site = one_more(site, &*committed, &*working, 129, 0);
     io::write_all(1, b"confirm 21:");
     let told = site.confirm(committed, working, 21, 1);
-    let waits = told.answer;
-    show(waits);
+    show(told.answer);
     io::write_all(1, b"work 5:");
     let done = told.site.work(committed, working, 5);
-    let commits = done.answer;
-    show(commits);
+    show(done.answer);
     io::write_all(1, b"request 129 again:");
     one_more(done.site, &*committed, &*working, 129, 0);
 }

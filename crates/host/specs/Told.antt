@@ -6,6 +6,8 @@ use Rattle.plain.specs.Site.{Call, offer, confirm, work, read, look, query}
 use Rattle.site.specs.declared.Answer as D
 use Rattle.site.specs.declared.Answer.TheVariants as a
 use Rattle.text.specs.Calls as T
+use Rattle.text.specs.declared.Refused.{Refused}
+use Rattle.text.specs.declared.Refused.TheVariants.{NoRecord, BadText, TooShort}
 use Rattle.store.specs.Store.{Store, run_size}
 use Rattle.store.specs.Calls.{State}
 use Rattle.promised.specs.Promised.{Promised, Begun}
@@ -68,6 +70,12 @@ abbrev pub told_text : T.Answer → List ℕ
 told_text (T.wrote length) = 10 ∷ length ∷ 0 ∷ 0 ∷ 0 ∷ 0 ∷ []
 told_text (T.refused number) = 0 ∷ number ∷ 0 ∷ 0 ∷ 0 ∷ 0 ∷ []
 told_text (T.refused_at number line) = 0 ∷ number ∷ line ∷ 0 ∷ 0 ∷ 0 ∷ []
+
+-- the first bad line of a text that is refused, else 0
+abbrev pub bad_line_of : Refused → ℕ
+bad_line_of (BadText line) = line
+bad_line_of NoRecord = 0
+bad_line_of TooShort = 0
 
 -- A HOST'S TEXT: what was done of the text form answered so, and the numbers are those of its answer
 pub record ToldText (Done : T.Answer → Type 0) (numbers : List ℕ) : Type 0 where

@@ -3,59 +3,46 @@
 
 ghost use Rattle.std.specs.Prelude.{◌≡◌, []};
 ghost use Rattle.plain.specs.Site.{offer, confirm, work, read, look, query};
+ghost use Rattle.plain.specs.Steps.{refused};
+ghost use Rattle.site.specs.Refusals.{number_or_none};
 ghost use Rattle.store.specs.Meaning.{cells_of};
 ghost use Rattle.text.specs.Calls as T;
 ghost use Rattle.site.specs.Held.{store, state_of, answer_of};
-ghost use Rattle.host.specs.Told.{told, shown, told_fresh, told_text, Told, ToldWork, ToldFresh, ToldText, Readable};
+ghost use Rattle.host.specs.Told.{told, shown, told_fresh, told_text, Told, ToldWork, ToldFresh, ToldText, Readable, bad_line_of};
 
-use cells::{CELLS, copy_cells};
-use site::{Answer, Site};
-use text::Outcome;
+use cells::CELLS;
+use site::{Answer, Refusal, Site};
+use text::Refused;
 
 // The answer of a call: what it is, then its numbers in document 01's order, then zeros.
 pub const NUMBERS: usize = 6;
 
 // What the first number says.
-const REFUSED: u64 = 0;
-
-const QUEUED: u64 = 1;
-
-const STEPPED: u64 = 2;
-
-const EXECUTED: u64 = 3;
-
-const COMMITTED: u64 = 4;
-
-const WAITING: u64 = 5;
-
-const VALUE: u64 = 6;
-
-const TO_DO: u64 = 7;
-
-const UNCONFIRMED: u64 = 8;
-
-const STARTED: u64 = 9;
-
-const WRITTEN: u64 = 10;
-
-const BEGUN: u64 = 11;
-
-const ENTRY: u64 = 12;
-
-// The refusals of the text form.
-const NO_RECORD: u64 = 3;
-
-const BAD_TEXT: u64 = 15;
-
-const SHORT_BUFFER: u64 = 16;
+#[derive(Clone, Copy, PartialEq, Eq)]
+enum Said {
+    Refused = 0,
+    Queued = 1,
+    Stepped = 2,
+    Executed = 3,
+    Committed = 4,
+    Waiting = 5,
+    Value = 6,
+    ToDo = 7,
+    Unconfirmed = 8,
+    Started = 9,
+    Written = 10,
+    Begun = 11,
+    Entry = 12,
+}
 
 // Writes the six numbers of an answer; of an entry also the class that was asked for.
+// kept: told case by case, here and below, for the C interface says which numbers an answer has.
 fn tell(answer: Answer, class: u64, out: &mut [u64; NUMBERS])
     ensures { out.new ≡ told class (answer_of answer []) }
 {
     match answer {
         Answer::Refused(n) => {
-            *out = [REFUSED, n as u64, 0, 0, 0, 0];
+            *out = numbers_of_refusal(n);
         }
         Answer::Queued {
             id,
@@ -64,7 +51,7 @@ fn tell(answer: Answer, class: u64, out: &mut [u64; NUMBERS])
             slot,
         } => {
             *out = [
-                QUEUED,
+                Said::Queued as u64,
                 id as u64,
                 class as u64,
                 place as u64,
@@ -73,10 +60,10 @@ fn tell(answer: Answer, class: u64, out: &mut [u64; NUMBERS])
             ];
         }
         Answer::Stepped { id, done } => {
-            *out = [STEPPED, id as u64, done as u64, 0, 0, 0];
+            *out = [Said::Stepped as u64, id as u64, done as u64, 0, 0, 0];
         }
         Answer::Executed { id } => {
-            *out = [EXECUTED, id as u64, 0, 0, 0, 0];
+            *out = [Said::Executed as u64, id as u64, 0, 0, 0, 0];
         }
         Answer::Committed {
             id,
@@ -86,7 +73,7 @@ fn tell(answer: Answer, class: u64, out: &mut [u64; NUMBERS])
             backs,
         } => {
             *out = [
-                COMMITTED,
+                Said::Committed as u64,
                 id as u64,
                 number as u64,
                 mark as u64,
@@ -95,45 +82,67 @@ fn tell(answer: Answer, class: u64, out: &mut [u64; NUMBERS])
             ];
         }
         Answer::Waiting { id, w, back } => {
-            *out = [WAITING, id as u64, w as u64, back as u64, 0, 0];
+            *out = [Said::Waiting as u64, id as u64, w as u64, back as u64, 0, 0];
         }
         Answer::Value(n) => {
-            *out = [VALUE, n as u64, 0, 0, 0, 0];
+            *out = [Said::Value as u64, n as u64, 0, 0, 0, 0];
         }
         Answer::ToDo { w, backs } => {
-            *out = [TO_DO, w as u64, backs, 0, 0, 0];
+            *out = [Said::ToDo as u64, w as u64, backs, 0, 0, 0];
         }
         Answer::Unconfirmed { backs } => {
-            *out = [UNCONFIRMED, backs, 0, 0, 0, 0];
+            *out = [Said::Unconfirmed as u64, backs, 0, 0, 0, 0];
         }
         Answer::Begun { place } => {
-            *out = [BEGUN, place as u64, 0, 0, 0, 0];
+            *out = [Said::Begun as u64, place as u64, 0, 0, 0, 0];
         }
         Answer::Entry { place } => {
-            *out = [ENTRY, place as u64, class, 0, 0, 0];
+            *out = [Said::Entry as u64, place as u64, class, 0, 0, 0];
         }
     }
 }
 
-// The six numbers of a fresh start that was refused under a number, or was not.
-fn numbers_of_fresh(refused: u8) -> [u64; NUMBERS]
-    ensures { result ≡ told_fresh refused }
+// The six numbers of a refusal.
+fn numbers_of_refusal(number: u8) -> [u64; NUMBERS]
+    ensures { result ≡ told 0 (refused number) }
 {
-    if refused == 0 {
-        return [STARTED, 0, 0, 0, 0, 0];
+    [Said::Refused as u64, number as u64, 0, 0, 0, 0]
+}
+
+// The six numbers of a fresh start, refused or not.
+fn numbers_of_fresh(refused: Option<Refusal>) -> [u64; NUMBERS]
+    ensures { result ≡ told_fresh (number_or_none refused) }
+{
+    match refused {
+        None => [Said::Started as u64, 0, 0, 0, 0, 0],
+        Some(refusal) => numbers_of_refusal(refusal.number()),
     }
-    [REFUSED, refused as u64, 0, 0, 0, 0]
 }
 
 // The six numbers of what came of a text.
-fn numbers_of_text(outcome: Outcome) -> [u64; NUMBERS]
+fn numbers_of_text(outcome: Result<usize, Refused>) -> [u64; NUMBERS]
     ensures { result ≡ told_text (T.answer_of outcome) }
 {
     match outcome {
-        Outcome::Length(n) => [WRITTEN, n as u64, 0, 0, 0, 0],
-        Outcome::NoRecord => [REFUSED, NO_RECORD, 0, 0, 0, 0],
-        Outcome::BadText(line) => [REFUSED, BAD_TEXT, line as u64, 0, 0, 0],
-        Outcome::TooShort => [REFUSED, SHORT_BUFFER, 0, 0, 0, 0],
+        Ok(length) => [Said::Written as u64, length as u64, 0, 0, 0, 0],
+        Err(refused) => [
+            Said::Refused as u64,
+            refused.number(),
+            bad_line(refused),
+            0,
+            0,
+            0,
+        ],
+    }
+}
+
+// The first bad line of a text, and 0 of any other refusal.
+fn bad_line(refused: Refused) -> u64
+    ensures { result ≡ bad_line_of refused }
+{
+    match refused {
+        Refused::BadText { line } => line as u64,
+        Refused::NoRecord | Refused::TooShort => 0,
     }
 }
 
@@ -147,9 +156,8 @@ pub extern "C" fn shpendorak_fresh(
     ensures { ToldFresh committed.old working.old (store result) committed.new working.new answer.new }
 {
     let started = promised::fresh(committed, working);
-    let site = started.site;
     *answer = numbers_of_fresh(started.refused);
-    site
+    started.site
 }
 
 // Queues the request of a record; or refuses with 1, 2, 3, 4, 14 or 5.
@@ -164,10 +172,8 @@ pub extern "C" fn shpendorak_offer(
     ensures { Told (state_of site committed.now working.now) (offer booking.now) (state_of result committed.now working.now) answer.new }
 {
     let reply = promised::offer(site, committed, working, booking);
-    let given = reply.answer;
-    tell(given, 0, answer);
-    let next = reply.site;
-    next
+    tell(reply.answer, 0, answer);
+    reply.site
 }
 
 // Confirms a queued id under the next number; or refuses with 1, 2, 6, 7, 8 or 9.
@@ -183,10 +189,8 @@ pub extern "C" fn shpendorak_confirm(
     ensures { Told (state_of site committed.old working.old) (confirm id number) (state_of result committed.new working.new) answer.new }
 {
     let reply = promised::confirm(site, committed, working, id, number);
-    let given = reply.answer;
-    tell(given, 0, answer);
-    let next = reply.site;
-    next
+    tell(reply.answer, 0, answer);
+    reply.site
 }
 
 // Where an entry was read, the committed cells of its class are put into an array.
@@ -198,7 +202,7 @@ fn show(answer: Answer, committed: &[u32], class: u64, entry: &mut [u32; CELLS])
         Answer::Entry { .. } => {
             let a = CELLS * (class as usize);
             let b = a + CELLS;
-            copy_cells(entry, &committed[a..b]);
+            entry.copy_from_slice(&committed[a..b]);
         }
         _ => {}
     }
@@ -217,11 +221,9 @@ pub extern "C" fn shpendorak_work(
     ensures { ToldWork (state_of site committed.old working.old) class (state_of result committed.new working.new) entry.old entry.new answer.new }
 {
     let reply = promised::work(site, committed, working, class);
-    let given = reply.answer;
-    show(given, &*committed, class, entry);
-    tell(given, class, answer);
-    let next = reply.site;
-    next
+    show(reply.answer, &*committed, class, entry);
+    tell(reply.answer, class, answer);
+    reply.site
 }
 
 // Begins a query over the classes of a mask, bit c for class c; or refuses with 1, 2, 17, 18 or 24.
@@ -236,10 +238,8 @@ pub extern "C" fn shpendorak_query(
     ensures { Told (state_of site committed.now working.old) (query mask) (state_of result committed.now working.new) answer.new }
 {
     let reply = promised::query(site, committed, working, mask);
-    let given = reply.answer;
-    tell(given, 0, answer);
-    let next = reply.site;
-    next
+    tell(reply.answer, 0, answer);
+    reply.site
 }
 
 // The committed cell of a class; or refuses with 1, 2, 10 or 12. The site stays as it is.
@@ -255,13 +255,13 @@ pub extern "C" fn shpendorak_read(
     ensures { Told (state_of site committed.now working.now) (read class cell) (state_of result committed.now working.now) answer.new }
 {
     let given = promised::read(site, committed, working, class, cell);
-    // What read answers is told here: so the answer takes no stack.
+    // kept: what read answers is told here, so that the answer takes no stack.
     match given {
         Answer::Refused(n) => {
-            *answer = [REFUSED, n as u64, 0, 0, 0, 0];
+            *answer = numbers_of_refusal(n);
         }
         Answer::Value(n) => {
-            *answer = [VALUE, n as u64, 0, 0, 0, 0];
+            *answer = [Said::Value as u64, n as u64, 0, 0, 0, 0];
         }
         _ => {
             tell(given, 0, answer);
@@ -295,8 +295,7 @@ pub extern "C" fn shpendorak_write_text(
 )
     ensures { ToldText (λ a. T.Wrote booking.now text.old a text.new) answer.new }
 {
-    let outcome = text::write(booking, text);
-    *answer = numbers_of_text(outcome);
+    *answer = numbers_of_text(text::write(booking, text));
 }
 
 // Writes the booking record of a text into a buffer; or refuses with 15 or 16, and writes nothing.
@@ -304,6 +303,5 @@ pub extern "C" fn shpendorak_write_text(
 pub extern "C" fn shpendorak_read_text(text: &[u8], booking: &mut [u8], answer: &mut [u64; NUMBERS])
     ensures { ToldText (λ a. T.Took text.now booking.old a booking.new) answer.new }
 {
-    let outcome = text::read(text, booking);
-    *answer = numbers_of_text(outcome);
+    *answer = numbers_of_text(text::read(text, booking));
 }

@@ -1,6 +1,7 @@
 -- The pieces of an input: the first and those behind it, and that cutting goes on across the end of a whole block. Assumes nothing.
 use Prim.Native.Nat.{ℕ, zero, suc, ◌+◌, ◌-◌, ◌*◌, ◌≤◌, ◌<◌}
 use native.Mathlib.Omega.{arith}
+use Rattle.std.proofs.Common.{min, append-nil, take_at, drop_at}
 use mathlib.Core.Path.{◌≡◌, refl, sym, ap, ◌∙◌}
 use mathlib.Core.List.{List, [], ◌∷◌, ◌++◌}
 use lib.ListN.{length, take, drop, length-take, length-drop, length-append, drop_of_length-le}
@@ -39,6 +40,15 @@ module _ (n : ℕ) (p : 1 ≤ n) where
   one_piece t h l =
       let d : drop n t ≡ [] = drop_of_length-le t l in
       first_piece t h ∙ rw (take_all n t l, d, no_piece)
+
+  -- as the library's chunks come off: a whole piece, or all that is left
+  pub next_piece : (x rest : List ℕ) → length x ≡ min n (length (x ++ rest)) → 0 < length (x ++ rest) → pieces n (x ++ rest) ≡ x ∷ pieces n rest
+  next_piece x [] e h =
+      let all : x ++ [] ≡ x = append-nil x in
+      rw (all, no_piece) (one_piece x (omega (arith, rw all at h)) (omega (arith, rw all at e)))
+  next_piece x (y ∷ rest) e h =
+      let l : length x ≡ n = omega (arith, length-append x (y ∷ rest)) in
+      first_piece (x ++ (y ∷ rest)) h ∙ rw (take_at x (y ∷ rest) n l, drop_at x (y ∷ rest) n l)
 
   -- AT A PLACE, which is how a program walks over an input: a whole piece and those behind it, none, and a short one
   pub piece_at : (t : List ℕ) (at : ℕ) → at + n ≤ length t → pieces n (drop at t) ≡ take (at + n - at) (drop at t) ∷ pieces n (drop (at + n) t)

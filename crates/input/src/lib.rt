@@ -8,6 +8,7 @@ ghost use Rattle.input.specs.Pieces.{whole_part};
 use std::io::Read;
 
 // How many bytes were read, and whether reading ended there because a read failed.
+// kept: no Result, for the bytes before a failed read are answered too
 #[derive(Clone, Copy)]
 pub struct Got {
     pub len: usize,
@@ -20,6 +21,7 @@ pub fn fill<R: Read>(input: &mut R, buf: &mut [u8]) -> Got
     ensures { IsPrefixLen result.len buf.new }
 {
     let mut done = 0;
+    // kept: a read gives as many bytes as it likes, so the place goes on by what came; no method of the library says how many came before a failure
     while done < buf.len() {
         match input.read(&mut buf[done..]) {
             Ok(0) => {

@@ -2,23 +2,22 @@
 #![tactic(auto)]
 
 ghost use Rattle.std.specs.Prelude.{◌+◌, ◌*◌, ◌≤◌, ◌≡◌, [], ◌++◌, length};
+ghost use Rattle.arrayvec.specs.ArrayVec.{array_vec_len};
 ghost use Rattle.site.specs.Held.{answer_of};
-ghost use Rattle.decimal.specs.Decimal.{decimal, blanked};
-ghost use Rattle.line.specs.Text.{line_with, line_of, written};
+ghost use Rattle.decimal.specs.Decimal.{decimal};
+ghost use Rattle.line.specs.Text.{line_with, line_of};
 
+use arrayvec::ArrayVec;
 use site::Answer;
 
-// A line so far: the first len of the bytes.
-#[derive(Clone, Copy)]
-pub struct Line {
-    pub bytes: [u8; 144],
-    pub len: usize,
-}
+// A line so far: the longest has 144 bytes.
+pub type Line = ArrayVec<u8, 144>;
 
 // The line that an answer to the event at a place gives.
+// kept: no Display, by a rule of the project: the words are fixed byte strings, written into the line.
 pub fn line_of(place: u64, answer: Answer) -> Line
-    ensures result_value { written result ≡ line_of place (answer_of answer []) }
-    ensures len_bound { result.len ≤ 144 }
+    ensures result_value { result.items ≡ line_of place (answer_of answer []) }
+    ensures len_bound { array_vec_len result ≤ 144 }
 {
     match answer {
         Answer::Refused(n) => whole(place, b"refused", &[n as u64]),
@@ -62,59 +61,28 @@ pub fn line_of(place: u64, answer: Answer) -> Line
 fn whole(place: u64, word: &[u8], numbers: &[u64]) -> Line
     requires word_len_bound { length word.now ≤ 11 }
     requires numbers_len_bound { length numbers.now ≤ 5 }
-    ensures result_value { written result ≡ line_with place word.now numbers.now }
-    ensures len_bound { result.len ≤ 144 }
+    ensures result_value { result.items ≡ line_with place word.now numbers.now }
+    ensures len_bound { array_vec_len result ≤ 144 }
 {
-    let empty = Line {
-        bytes: [0; 144],
-        len: 0,
-    };
-    let first = number(empty, place);
-    let named = put(put(first, b" "), word);
-    put(each(named, numbers), b"\n")
+    let mut line = Line::new();
+    put_number(&mut line, place);
+    line.push(b' ');
+    line.try_extend_from_slice(word).unwrap();
+    for number in numbers {
+        line.push(b' ');
+        put_number(&mut line, *number);
+    }
+    line.push(b'\n');
+    line
 }
 
-// The line with each number behind it, a blank before each: at most 21 bytes for each.
-fn each(l: Line, numbers: &[u64]) -> Line
-    requires { l.len + 21 * length numbers.now ≤ 144 }
-    ensures result_value { written result ≡ written l ++ blanked numbers.now }
-    ensures len_bound { result.len ≤ l.len + 21 * length numbers.now }
+// Puts a number's decimal digits, at most 20, behind a line.
+fn put_number(line: &mut Line, number: u64)
+    requires { array_vec_len line.old + 20 ≤ 144 }
+    ensures line_after { line.new.items ≡ line.old.items ++ decimal number }
+    ensures len_bound { array_vec_len line.new ≤ array_vec_len line.old + 20 }
 {
-    let mut so_far = l;
-    let mut i = 0;
-    while i < numbers.len() {
-        so_far = number(put(so_far, b" "), numbers[i]);
-        i += 1;
-    }
-    so_far
-}
-
-// The line with a number's decimal digits behind it, at most 20.
-fn number(l: Line, n: u64) -> Line
-    requires { l.len + 20 ≤ 144 }
-    ensures result_value { written result ≡ written l ++ decimal n }
-    ensures len_bound { result.len ≤ l.len + 20 }
-{
-    let mut text = [0u8; 20];
-    let k = io::decimal(n, &mut text);
-    put(l, &text[..k])
-}
-
-// The line with a text behind it.
-fn put(l: Line, text: &[u8]) -> Line
-    requires { l.len + length text.now ≤ 144 }
-    ensures result_value { written result ≡ written l ++ text.now }
-    ensures len_value { result.len ≡ l.len + length text.now }
-{
-    let mut bytes = l.bytes;
-    let at = l.len;
-    let mut i = 0;
-    while i < text.len() {
-        bytes[at + i] = text[i];
-        i += 1;
-    }
-    Line {
-        bytes: bytes,
-        len: at + i,
-    }
+    let mut digits = [0u8; 20];
+    let count = io::decimal(number, &mut digits);
+    line.try_extend_from_slice(&digits[..count]).unwrap();
 }

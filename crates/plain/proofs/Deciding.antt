@@ -5,6 +5,7 @@ use mathlib.Core.Path.{◌≡◌, refl}
 use mathlib.Core.Bool.{Bool, true, false, not, ◌&&◌}
 use mathlib.Core.List.{List, [], ◌∷◌}
 use lib.Dec.{ltb, leb, eqb}
+use lib.Pointwise.{pointwise, pointwise_decides}
 use borrow.Author.Count.{below_more}
 use borrow.Author.Tests.{lt-ltb, le-leb, eqb-true, eqb-false, eq-eqb, leb-true, ltb-true, not-true, not-false}
 use Rattle.plain.specs.Sound.{All}
@@ -70,6 +71,12 @@ decides_same [] (y ∷ m) = decides_false (λ h. let z : ◌≡◌ {A = ℕ} 0 1
 decides_same (x ∷ l) [] = decides_false (λ h. let z : ◌≡◌ {A = ℕ} 0 1 = cc in omega arith)
 decides_same (x ∷ l) (y ∷ m) =
     decides_as (λ h. rw (h.0, h.1)) (λ h. ((cc), (cc))) (decides_both (decides_eq x y) (decides_same l m))
+
+-- element by element, as `==` of two slices looks at them
+pub decides_pointwise : {A : Type 0} {E : A → A → Bool} → ((x y : A) → Decides (E x y) (x ≡ y)) → (l m : List A) → Decides (pointwise E l m) (l ≡ m)
+decides_pointwise {A} {E} d l m =
+    let both = pointwise_decides {K = A} {E = E} (λ x y. ((d x y).yes, holds (d x y))) l m in
+    decided both.0 both.1
 
 -- every number below n
 abbrev pub below_test : (ℕ → Bool) → ℕ → Bool

@@ -5,13 +5,14 @@ ghost use Rattle.std.specs.Prelude.{[]};
 ghost use Rattle.plain.specs.Site as P;
 ghost use Rattle.store.specs.Meaning.{cells_of};
 ghost use Rattle.site.specs.Held.{store, state_of, answer_of};
+ghost use Rattle.site.specs.Refusals.{number_or_none};
 ghost use Rattle.promised.specs.Promised.{Promised, Begun};
 
 use site::{Answer, Fresh, Reply, Site};
 
-// A fresh site with all cells 0, and 0; or an empty one and 1, and no cell is touched.
+// A fresh site with all cells 0; or an empty one, with the refusal 1, and no cell is touched.
 pub fn fresh(committed: &mut [u32], working: &mut [u32]) -> Fresh
-    ensures { Begun committed.old working.old (store result.site) result.refused committed.new working.new }
+    ensures { Begun committed.old working.old (store result.site) (number_or_none result.refused) committed.new working.new }
 {
     Site::fresh(committed, working)
 }

@@ -17,23 +17,26 @@ unfolding bits bits_of
 bits_same zero n = refl
 bits_same (suc k) n = ap (λ (l : List Bool). eqb (n % 2) 1 ∷ l) (bits_same k (n / 2))
 
-named_is : (m c : ℕ) → named m c ≡ get_or (bits_of 16 m) c false
-unfolding named
-named_is m c = ap (λ (l : List Bool). get_or l c false) (bits_same 16 m)
-
 pub named_digit : (m c : ℕ) → c < 16 → named m c ≡ eqb (m / 2 ^ c % 2) 1
-named_digit m c l = named_is m c ∙ bits_get 16 m c l
+unfolding named
+named_digit m c l = ap (λ (l : List Bool). get_or l c false) (bits_same 16 m) ∙ bits_get 16 m c l
 
-module _ (m c n : ℕ) (l : c < 16) (b : Bool) (e : bits_of 16 n ≡ set (bits_of 16 m) c b) where
+-- a class that a mask names, among the digits of a longer word
+pub named_is : (m c : ℕ) → c < 16 → named m c ≡ get_or (bits_of 64 m) c false
+named_is m c l = named_digit m c l ∙ sym (bits_get 64 m c (omega arith))
+
+module _ (m c n : ℕ) (l : c < 16) (b : Bool) (e : bits_of 64 n ≡ set (bits_of 64 m) c b) where
   own : named n c ≡ b
-  own = named_is n c ∙ ap (λ (l : List Bool). get_or l c false) e ∙ get_or-set_same (bits_of 16 m) c b false (omega (arith, bits_length 16 m))
+  own =
+      named_is n c l ∙ ap (λ (l : List Bool). get_or l c false) e
+      ∙ get_or-set_same (bits_of 64 m) c b false (omega (arith, bits_length 64 m))
 
   others : (d : ℕ) → d < 16 → (d ≡ c → ⊥) → named n d ≡ named m d
   others d k ne =
-      named_is n d ∙ ap (λ (l : List Bool). get_or l d false) e ∙ get_or-set_other (bits_of 16 m) c d b false ne ∙ sym (named_is m d)
+      named_is n d k ∙ ap (λ (l : List Bool). get_or l d false) e ∙ get_or-set_other (bits_of 64 m) c d b false ne ∙ sym (named_is m d k)
 
-pub grown : (m c n : ℕ) → c < 16 → bits_of 16 n ≡ set (bits_of 16 m) c true → Grown m c n
+pub grown : (m c n : ℕ) → c < 16 → bits_of 64 n ≡ set (bits_of 64 m) c true → Grown m c n
 grown m c n l e = record { own = own m c n l true e; others = others m c n l true e }
 
-pub shrunk : (m c n : ℕ) → c < 16 → bits_of 16 n ≡ set (bits_of 16 m) c false → Shrunk m c n
+pub shrunk : (m c n : ℕ) → c < 16 → bits_of 64 n ≡ set (bits_of 64 m) c false → Shrunk m c n
 shrunk m c n l e = record { own = own m c n l false e; others = others m c n l false e }

@@ -2,12 +2,14 @@
 // free, and all zero, where no class is left.
 #![tactic(auto)]
 
-ghost use Rattle.std.specs.Prelude.{◌≡◌, cond, eqb, ◌<◌};
+ghost use Rattle.std.specs.Prelude.{◌≡◌, cond, eqb, ◌<◌, IfSome, IfNone};
 ghost use Rattle.plain.specs.Site.{named};
 ghost use Rattle.queries.specs.Table.{Grown, Shrunk, lowest_free_place};
 
+use usedmap::{bit, with_bit};
+
 #[repr(C)]
-#[derive(Clone, Copy)]
+#[derive(Clone, Copy, Default, PartialEq, Eq)]
 pub struct Query {
     pub classes: u16,
     pub begun: u32,
@@ -18,7 +20,7 @@ pub fn names(mask: u16, c: u32) -> bool
     requires { c < 16 }
     ensures { result ≡ named mask c }
 {
-    (mask >> c) % 2 == 1
+    bit(u64::from(mask), c)
 }
 
 // The mask with class c more.
@@ -26,7 +28,7 @@ pub fn with_class(mask: u16, c: u32) -> u16
     requires { c < 16 }
     ensures { Grown mask c result }
 {
-    mask | (1 << c)
+    with_bit(u64::from(mask), c, true) as u16
 }
 
 // The mask without class c.
@@ -34,7 +36,7 @@ pub fn without_class(mask: u16, c: u32) -> u16
     requires { c < 16 }
     ensures { Shrunk mask c result }
 {
-    mask & !(1 << c)
+    with_bit(u64::from(mask), c, false) as u16
 }
 
 // A query that has class c to read too, and began at this count of confirmations.
@@ -53,29 +55,21 @@ pub fn without(q: Query, c: u32) -> Query
     requires { c < 16 }
     ensures { Shrunk q.classes c result.classes × (result.begun ≡ cond (eqb result.classes 0) 0 q.begun) }
 {
-    let mask = without_class(q.classes, c);
-    if mask == 0 {
-        return Query {
-            classes: 0,
-            begun: 0,
-        };
-    }
-    Query {
-        classes: mask,
-        begun: q.begun,
+    let classes = without_class(q.classes, c);
+    if classes == 0 {
+        Query::default()
+    } else {
+        Query {
+            classes,
+            begun: q.begun,
+        }
     }
 }
 
-// The lowest index of the table that is free, 8 where none is.
-pub fn lowest_free(table: [Query; 8]) -> usize
-    ensures { result ≡ lowest_free_place table }
+// The lowest index of the table that is free; none where all are taken.
+pub fn lowest_free(table: &[Query; 8]) -> Option<usize>
+    ensures some { IfSome result (λ p. (p ≡ lowest_free_place table.now) × (p < 8)) }
+    ensures none { IfNone result (lowest_free_place table.now ≡ 8) }
 {
-    let mut p = 0;
-    while p < 8 {
-        if table[p].classes == 0 {
-            return p;
-        }
-        p += 1;
-    }
-    p
+    table.iter().position(|q| q.classes == 0)
 }

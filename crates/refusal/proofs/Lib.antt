@@ -1,3 +1,3 @@
--- an outcome that is no length, and lines written out
+-- a refusal is no length, and lines written out
 pub mod Outcomes
 pub mod Examples

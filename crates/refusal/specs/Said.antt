@@ -1,7 +1,8 @@
 -- What is said of a record that is refused: a line with its place, the number, and for a bad text the line. Assumes nothing.
-use Rattle.std.specs.Prelude.{ℕ, List, [], ◌∷◌, ◌++◌}
+use Rattle.std.specs.Prelude.{ℕ, List, [], ◌∷◌, ◌++◌, Option, Some, None}
 use Rattle.decimal.specs.Decimal.{decimal}
-use Rattle.text.specs.Calls.{Answer, wrote, refused, refused_at}
+use Rattle.text.specs.declared.Refused.{Refused}
+use Rattle.text.specs.Calls.{Answer, wrote, refused, refused_at, refusal_of}
 
 -- the words, in ASCII: `record `, `: refused `, ` at line `
 abbrev pub record_word : List ℕ
@@ -22,3 +23,8 @@ abbrev pub refusal_line : (place : ℕ) → Answer → List ℕ
 refusal_line n (wrote length) = []
 refusal_line n (refused number) = refusal_start n number ++ (10 ∷ [])
 refusal_line n (refused_at number line) = refusal_start n number ++ line_word ++ decimal line ++ (10 ∷ [])
+
+-- of a record that is refused, or is not
+abbrev pub said : (place : ℕ) → Option Refused → List ℕ
+said n None = []
+said n (Some e) = refusal_line n (refusal_of e)

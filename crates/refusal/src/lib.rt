@@ -3,56 +3,48 @@
 
 ghost use Rattle.std.specs.Prelude.{◌≤◌, ◌≡◌, length, take};
 ghost use Rattle.io.specs.Counts.{IsPrefixLen};
-ghost use Rattle.text.specs.Calls.{refused, refused_at, answer_of};
-ghost use Rattle.refusal.specs.Said.{refusal_start, refusal_line};
+ghost use Rattle.text.specs.Calls.{refusal_of};
+ghost use Rattle.refusal.specs.Said.{refusal_start, refusal_line, said};
 
 use decimal::{put, put_number};
-use text::Outcome;
+use text::Refused;
 
+// kept: the system's numbers; no crate below the programs has to do with files.
 const STDERR_FILENO: i32 = 2;
 
 // The words of the line and three numbers, of 20 digits at most each, fit 87 bytes.
 const LINE: usize = 87;
 
 // Writes what is said of the record at a place, from 1, to standard error: nothing where it is not refused.
-pub fn report(place: u64, outcome: Outcome) {
+pub fn report(place: u64, refused: Option<Refused>) {
     let mut line = [0u8; LINE];
-    let n = put_refusal(&mut line, place, outcome);
+    let n = put_refusal(&mut line, place, refused);
     io::write_all(STDERR_FILENO, &line[..n]);
 }
 
 // Puts the line that is said of the record at a place, and answers its length: 0 where the record is not refused.
-fn put_refusal(to: &mut [u8; LINE], place: u64, outcome: Outcome) -> usize
+fn put_refusal(to: &mut [u8; LINE], place: u64, refused: Option<Refused>) -> usize
     ensures prefix_len { IsPrefixLen result to.new }
-    ensures to_after { take result to.new ≡ refusal_line place (answer_of outcome) }
+    ensures to_after { take result to.new ≡ said place refused }
 {
-    match outcome {
-        Outcome::Length(_) => 0,
-        Outcome::NoRecord => put_refused(to, place, 3),
-        Outcome::BadText(line) => put_refused_at(to, place, 15, line as u64),
-        Outcome::TooShort => put_refused(to, place, 16),
+    match refused {
+        Some(refused) => put_refused(to, place, refused),
+        None => 0,
     }
 }
 
-// Puts the line of a refusal that names no line.
-fn put_refused(to: &mut [u8], place: u64, number: u64) -> usize
+// Puts the line of a refusal, which names the line of a bad text.
+fn put_refused(to: &mut [u8], place: u64, refused: Refused) -> usize
     requires { 87 ≤ length to.old }
     ensures upper_bound { result ≤ 87 }
-    ensures to_after { take result to.new ≡ refusal_line place (refused number) }
+    ensures to_after { take result to.new ≡ refusal_line place (refusal_of refused) }
 {
-    let at = put_start(to, place, number);
-    put(to, at, b"\n")
-}
-
-// Puts the line of a refusal that names a line.
-fn put_refused_at(to: &mut [u8], place: u64, number: u64, line: u64) -> usize
-    requires { 87 ≤ length to.old }
-    ensures upper_bound { result ≤ 87 }
-    ensures to_after { take result to.new ≡ refusal_line place (refused_at number line) }
-{
-    let at = put_start(to, place, number);
-    let named = put(to, at, b" at line ");
-    let numbered = put_number(to, named, line);
+    let said = put_start(to, place, refused.number());
+    let Refused::BadText { line } = refused else {
+        return put(to, said, b"\n");
+    };
+    let named = put(to, said, b" at line ");
+    let numbered = put_number(to, named, line as u64);
     put(to, numbered, b"\n")
 }
 

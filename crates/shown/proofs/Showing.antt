@@ -1,5 +1,5 @@
 -- Showing goes on from record to record, and from block to block. Assumes nothing.
-use Rattle.std.proofs.Common.{◌≡◌, ℕ, ◌+◌, ◌-◌, ◌*◌, ◌^◌, ◌<◌, ◌≤◌, true, false, cond, List, [], ◌∷◌, ◌++◌, map, length, take, drop, sym, refl, ap, ◌∙◌, append_assoc, append-nil, arith, length-append, length-drop, length-take, length-take-le, take_all, take_at, ne_eqb}
+use Rattle.std.proofs.Common.{min, drop_of_length-le, ◌≡◌, ℕ, ◌+◌, ◌-◌, ◌*◌, ◌^◌, ◌<◌, ◌≤◌, true, false, cond, List, [], ◌∷◌, ◌++◌, map, length, take, drop, sym, refl, ap, ◌∙◌, append_assoc, append-nil, arith, length-append, length-drop, length-take-le, take_all, take_at}
 use mathlib.Core.Option.{some, none}
 use lib.Seq.{take-append-add, take-append_seam}
 use Rattle.plain.specs.Sizes.{record_size}
@@ -8,10 +8,13 @@ use Rattle.plain.specs.Record.{is_record, request_in, request}
 use Rattle.plain.specs.Sound.{All}
 use Rattle.plain.proofs.Tests.{by_test, no}
 use Rattle.text.specs.Text.{joined, text_of}
-use Rattle.text.specs.Calls.{Answer, wrote, refused, Wrote}
+use Rattle.text.specs.declared.Refused.{Refused}
+use Rattle.text.specs.Calls.{Answer, wrote, refused, refusal_of, Wrote}
+use Rattle.text.proofs.Encoding.{sixty_four}
+use Rattle.refusal.proofs.Outcomes.{no_length}
 use Rattle.text.proofs.Laws.{wrote_at_most_168, with_room}
 use Rattle.input.specs.Pieces.{behind}
-use Rattle.input.proofs.Cutting.{no_piece, piece_at, none_at, short_at, pieces_append}
+use Rattle.input.proofs.Cutting.{no_piece, next_piece, pieces_append}
 use Rattle.shown.specs.Showing.{records_of, requests, texts, ShowsOne, Shows, Ran}
 
 -- THE TEXT OF ONE RECORD
@@ -106,49 +109,46 @@ module _ (bs : List (List ℕ)) (place : ℕ) (text : List ℕ) (next : ℕ) whe
     answers = sym (rw h.same);
   }
 
--- WALKING OVER AN INPUT: where showing stands when the first `at` bytes are behind
-abbrev pub Stands : (input : List ℕ) (place at : ℕ) (text : List ℕ) (next : ℕ) → Type 0
-Stands input place at text next = SoFar (records_of input) place text next (records_of (drop at input))
+-- WALKING OVER AN INPUT: the records of what is left, of which b comes off
+pub comes_next : (left b rest : List ℕ) (size : ℕ) → size ≡ record_size → left ≡ b ++ rest → length b ≡ min size (length left) → 0 < length left
+    → records_of left ≡ b ∷ records_of rest
+comes_next left b rest size s e l h =
+    let m : length b ≡ min record_size (length (b ++ rest)) = rw (s, e) at l in
+    ap records_of e ∙ next_piece record_size (omega arith) b rest m (rw e at h)
 
--- what is shorter than a record is none
-short_is_none : (b : List ℕ) → length b < record_size → is_record b ≡ false
-unfolding is_record
-short_is_none b h = rw (ne_eqb (length b) record_size (λ e. omega arith))
+-- and where nothing is left
+pub all_shown : (bs : List (List ℕ)) (place : ℕ) (text : List ℕ) (next : ℕ) (left : List ℕ) (len : ℕ) → next < 2 ^ 64 → length text ≡ len
+    → length left ≡ 0 → SoFar bs place text next (records_of left) → Shows bs place text next (wrote len)
+all_shown bs place text next left len m e l h =
+    let none : records_of left ≡ [] = ap records_of (drop_of_length-le left {i = 0} (omega arith)) ∙ no_piece record_size (omega arith) in
+    rw (← e) (ended bs place text next m (rw none at h))
 
-module _ (input : List ℕ) (place at : ℕ) (text after : List ℕ) (next : ℕ) (a : Answer) where
-  -- a whole piece was shown
-  pub walked : at + record_size ≤ length input → ShowsOne (take (at + record_size - at) (drop at input)) text after a → (n : ℕ) → a ≡ wrote n
-      → Stands input place at text next → Stands input place (at + record_size) after (behind next 1)
-  walked l one n e h =
-      by_test (is_record (take (at + record_size - at) (drop at input)))
-      (λ t. rw one.says (one_more (records_of input) place text next _ _ t (rw (piece_at record_size (omega arith) input at l) at h)))
-      (λ f. let q : wrote n ≡ refused 3 = sym e ∙ one.answers ∙ rw f in let z : ◌≡◌ {A = ℕ} 0 1 = cc in absurd (omega arith))
-
-  -- a whole piece was refused
-  pub refused_there : at + record_size ≤ length input → ShowsOne (take (at + record_size - at) (drop at input)) text after a
-      → ((n : ℕ) → a ≡ wrote n → ⊥) → next < 2 ^ 64 → Stands input place at text next → Shows (records_of input) place after next a
-  refused_there l one nl m h =
-      let b = take (at + record_size - at) (drop at input) in
+-- where b comes next
+module _ (bs : List (List ℕ)) (place : ℕ) (text after : List ℕ) (next : ℕ) (b : List ℕ) (rest : List (List ℕ)) where
+  -- what was shown is a whole record
+  pub whole_record : (n : ℕ) → ShowsOne b text after (wrote n) → length b ≡ record_size
+  whole_record n one =
       by_test (is_record b)
-      (λ t. absurd (nl (length (texts (b ∷ []))) (one.answers ∙ rw t)))
+      (λ t. sixty_four b (request_in b) (is_request b t))
+      (λ f. let q : wrote n ≡ refused 3 = one.answers ∙ rw f in let z : ◌≡◌ {A = ℕ} 0 1 = cc in absurd (omega arith))
+
+  -- it was shown
+  pub walked : (n : ℕ) → ShowsOne b text after (wrote n) → SoFar bs place text next (b ∷ rest) → SoFar bs place after (behind next 1) rest
+  walked n one h =
+      by_test (is_record b)
+      (λ t. rw one.says (one_more bs place text next b rest t h))
+      (λ f. let q : wrote n ≡ refused 3 = one.answers ∙ rw f in let z : ◌≡◌ {A = ℕ} 0 1 = cc in absurd (omega arith))
+
+  -- it was refused
+  pub refused_there : (e : Refused) → ShowsOne b text after (refusal_of e) → next < 2 ^ 64 → SoFar bs place text next (b ∷ rest)
+      → Shows bs place after next (refusal_of e)
+  refused_there e one m h =
+      by_test (is_record b)
+      (λ t. absurd (no_length e (length (texts (b ∷ []))) (one.answers ∙ rw t)))
       (λ f.
-      let e : after ≡ text = one.says ∙ ap (λ (t : List ℕ). text ++ t) (no_text b f) ∙ append-nil text in
-      let q : a ≡ refused 3 = one.answers ∙ rw f in
-      rw (e, q) (stopped (records_of input) place text next b _ m f (rw (piece_at record_size (omega arith) input at l) at h)))
-
-module _ (input : List ℕ) (place at : ℕ) (text : List ℕ) (next : ℕ) (m : next < 2 ^ 64) where
-  -- the last piece is short
-  pub short_there : at < length input → length input < at + record_size → Stands input place at text next
-      → Shows (records_of input) place text next (refused 3)
-  short_there l k h =
-      stopped (records_of input) place text next (take (length input - at) (drop at input)) [] m
-      (short_is_none (take (length input - at) (drop at input)) (omega (arith, length-take (length input - at) (drop at input))))
-      (rw (short_at record_size (omega arith) input at l k) at h)
-
-  -- nothing is left
-  pub all_shown : (len : ℕ) → length text ≡ len → length input ≤ at → Stands input place at text next
-      → Shows (records_of input) place text next (wrote len)
-  all_shown len e l h = rw (← e) (ended (records_of input) place text next m (rw (none_at record_size (omega arith) input at l) at h))
+      let s : after ≡ text = one.says ∙ ap (λ (t : List ℕ). text ++ t) (no_text b f) ∙ append-nil text in
+      let q : refusal_of e ≡ refused 3 = one.answers ∙ rw f in
+      rw (s, q) (stopped bs place text next b rest m f h))
 
 -- FROM BLOCK TO BLOCK. Where all of a are records, those of a ++ b are a's and b's
 all_there : (cs : List (List ℕ)) → every (map is_record cs) ≡ true → All (λ b. is_record b ≡ true) cs

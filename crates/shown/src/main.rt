@@ -2,17 +2,17 @@
 // that what is written comes out is left to the system.
 #![tactic(auto)]
 
-ghost use Rattle.std.specs.Prelude.{◌≡◌, ◌+◌, ◌≤◌, length, take};
-ghost use Rattle.text.specs.Calls.{answer_of};
+ghost use Rattle.std.specs.Prelude.{◌≡◌, ◌+◌, ◌-◌, ◌≤◌, length, take, MatchResult, IfOk};
+ghost use Rattle.text.specs.Calls.{wrote, refusal_of, answer_up_to};
 ghost use Rattle.shown.specs.Showing.{records_of, ShowsOne, Shows};
 
 use input::{fill, whole};
 use refusal::report;
 use slots::decode::RECORD;
 use std::io::Read;
-use std::num::wrapping_add_u64;
-use text::{Outcome, write};
+use text::{Refused, write};
 
+// kept: the system's numbers; no crate below the programs has to do with files.
 const STDOUT_FILENO: i32 = 1;
 
 const STDERR_FILENO: i32 = 2;
@@ -20,87 +20,61 @@ const STDERR_FILENO: i32 = 2;
 // Records are read in blocks of 384: their texts fit 65,536 bytes.
 const BLOCK: usize = 24576;
 
-// What showing a record came to, and how many bytes the text has then.
-#[derive(Clone, Copy)]
-struct Shown {
-    outcome: Outcome,
-    len: usize,
-}
-
-// The text of a record, put into a text of len bytes.
-fn show_record(bytes: &[u8], text: &mut [u8], len: usize) -> Shown
+// Puts the text of a record behind the first `len` bytes of a text, and answers where it ends.
+fn show_record(bytes: &[u8], text: &mut [u8], len: usize) -> Result<usize, Refused>
     requires { len + 168 ≤ length text.old }
-    ensures shows_one { ShowsOne bytes.now (take len text.old) (take result.len text.new) (answer_of result.outcome) }
-    ensures len_bound { result.len ≤ len + 168 }
+    ensures shows_one { MatchResult result (λ end. ShowsOne bytes.now (take len text.old) (take end text.new) (wrote (end - len))) (λ e. ShowsOne bytes.now (take len text.old) (take len text.new) (refusal_of e)) }
+    ensures len_bound { IfOk result (λ end. (len ≤ end) × (end ≤ len + 168)) }
 {
-    let outcome = write(bytes, &mut text[len..]);
-    let Outcome::Length(n) = outcome else {
-        return Shown {
-            outcome: outcome,
-            len: len,
-        };
-    };
-    Shown {
-        outcome: outcome,
-        len: len + n,
-    }
+    let n = write(bytes, &mut text[len..])?;
+    Ok(len + n)
 }
 
-// What showing a block came to: the last outcome, the bytes of the text, and the place of the record behind those shown.
+// What showing a block came to: the bytes of the text, the place of the record behind those shown, and why it is refused, if it is.
+// kept: what is written stands in io's large buffer, of a fixed length, so how many of its bytes are used stands beside it
 #[derive(Clone, Copy)]
 struct Block {
-    outcome: Outcome,
     len: usize,
     place: u64,
+    refused: Option<Refused>,
 }
 
 // The texts of a block's records, from a place on, up to the first that is refused. The last record may be short.
 fn show_block(input: &[u8], first: u64, text: &mut [u8]) -> Block
     requires input_len_bound { length input.now ≤ 24576 }
     requires text_len { length text.old ≡ 65536 }
-    ensures shows { Shows (records_of input.now) first (take result.len text.new) result.place (answer_of result.outcome) }
+    ensures shows { Shows (records_of input.now) first (take result.len text.new) result.place (answer_up_to result.len result.refused) }
     ensures len_bound { result.len ≤ 65536 }
 {
-    let n = input.len();
     let mut len = 0;
     let mut place = first;
-    let mut at = 0;
-    while at + RECORD <= n {
-        let end = at + RECORD;
-        let shown = show_record(&input[at..end], text, len);
-        let outcome = shown.outcome;
-        len = shown.len;
-        let Outcome::Length(_) = outcome else {
-            return Block {
-                outcome: outcome,
-                len: len,
-                place: place,
-            };
-        };
-        place = wrapping_add_u64(place, 1);
-        at = end;
-    }
-    if at < n {
-        return Block {
-            outcome: Outcome::NoRecord,
-            len: len,
-            place: place,
-        };
+    for record in input.chunks(RECORD) {
+        match show_record(record, text, len) {
+            Ok(end) => len = end,
+            Err(refused) => {
+                return Block {
+                    len: len,
+                    place: place,
+                    refused: Some(refused),
+                };
+            }
+        }
+        place = place.wrapping_add(1);
     }
     Block {
-        outcome: Outcome::Length(len),
         len: len,
         place: place,
+        refused: None,
     }
 }
 
 // Block after block, until the input ends or cannot be read, a record is refused, or the text cannot be written.
+// kept: the loops of drive, shown and typed differ in what is left of a block and in what is known of a run (`Ran`), which a closure would hide
 fn run<R: Read>(stdin: &mut R) {
     let mut input = [0u8; BLOCK];
     let mut text = io::large_buffer();
     let mut place: u64 = 1;
-    let mut turns = u64::MAX;
-    while turns > 0 {
+    for _ in 0..u64::MAX {
         let got = fill(stdin, &mut input);
         let n = whole(got, RECORD);
         let block = show_block(&input[..n], place, &mut text);
@@ -109,11 +83,10 @@ fn run<R: Read>(stdin: &mut R) {
             return;
         }
         place = block.place;
-        let outcome = block.outcome;
-        let Outcome::Length(_) = outcome else {
-            report(place, outcome);
+        if block.refused.is_some() {
+            report(place, block.refused);
             return;
-        };
+        }
         if got.failed {
             io::write_all(STDERR_FILENO, b"shown: the input cannot be read\n");
             return;
@@ -121,7 +94,6 @@ fn run<R: Read>(stdin: &mut R) {
         if n < BLOCK {
             return;
         }
-        turns -= 1;
     }
 }
 

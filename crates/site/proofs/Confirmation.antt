@@ -112,8 +112,14 @@ module _ (x : State) (w : Shaped x.site) (i : ℕ) (f : Confirmable x i) where
     abbrev pub Gone : Store → List ℕ → ℕ → Type 0
     Gone t wrk' back = Goes x w f.right f.sound (slot_at x.site.slots i).id (x.site.confirmations + 1) i from to (movable from to p q) t wrk' back
 
-    pub not_back : to ≤ from
-    not_back = forward x w f.right f.sound id n i from to (movable from to p q)
+    -- from where it stands to where it comes to stand, in its class's queue
+    pub within : (i < 128) × (c < 16) × (to ≤ from) × (from < 136)
+    within = (
+      f.small,
+      small_class,
+      forward x w f.right f.sound id n i from to (movable from to p q),
+      omega (arith, p.within, f.sound.laid.not_longer_than_136 c small_class),
+    )
 
     put_back_gone : (hd ≡ i → ⊥) → to ≡ 0 → (a : Store) (wrk' : List ℕ) → PutBack x.site x.committed x.working c a wrk'
         → (t : Store) → Forward a c i (a.confirmations + 1) from to t → Gone t wrk' (slot_at x.site.slots hd).id

@@ -1,5 +1,5 @@
 -- The struct as the theory has it, what its answers are in document 01, and what the private steps promise. Assumes nothing.
-use Rattle.std.specs.Prelude.{ℕ, ◌+◌, ◌<◌, ◌≤◌, ◌≡◌, true, List, set}
+use Rattle.std.specs.Prelude.{ℕ, ◌+◌, ◌<◌, ◌≤◌, ◌≡◌, true, List, set, Option, Some, None, Result, Ok, Err}
 use Rattle.plain.specs.Steps as K
 use Rattle.plain.specs.Site.{Call}
 use Rattle.usedmap.specs.Flags.{used_of}
@@ -8,9 +8,12 @@ use Rattle.slots.specs.declared.Slot.{Slot}
 use Rattle.slots.specs.Meaning.{slot_at}
 use Rattle.store.specs.Store.{Store}
 use Rattle.store.specs.Meaning.{places, len_of}
-use Rattle.store.specs.Sound.{times, Laid}
+use Rattle.store.specs.Sound.{times, Laid, SlotsOk, BacksOk}
+use Rattle.store.specs.Checks.{LaidIn, KeptOk, ids_of, numbers_of}
 use Rattle.store.specs.Steps.{placed, head_slot}
 use Rattle.store.specs.Calls.{State, RightCells, SoundState, Called}
+use Rattle.site.specs.Refusals.{number_of}
+use Rattle.site.specs.declared.refusal.Refusal.{Refusal}
 use Rattle.site.specs.declared.Site.{Site}
 use Rattle.site.specs.declared.Answer.{Answer}
 use Rattle.site.specs.declared.Answer.TheVariants as a
@@ -21,8 +24,8 @@ store s = record {
   slots = s.slots;
   queue = s.queue;
   lens = s.lens;
-  low = s.low;
-  high = s.high;
+  low = s.used.lo;
+  high = s.used.hi;
   confirmations = s.confirmations;
   commits = s.commits;
   kept = s.kept;
@@ -49,26 +52,30 @@ answer_of (a.Unconfirmed backs) cells = K.unconfirmed backs
 answer_of (a.Begun place) cells = K.begun place
 answer_of (a.Entry place) cells = K.entry place cells
 
--- what every call begins with: 0 where the cells are right and the site sound; any other number is what every call is refused with
-pub record Door (x : State) (no : ℕ) : Type 0 where
-  pub open_to : no ≡ 0 → RightCells x × SoundState x
-  pub shut : (no ≡ 0 → ⊥) → (k : Call) → Called x k x (K.refused no)
+-- the rules of a sound site but that of the cells
+abbrev pub InOrder : Store → Type 0
+InOrder s =
+    SlotsOk s × BacksOk s.slots (s.confirmations + s.begun) × LaidIn s × KeptOk (ids_of s.slots) (numbers_of s.slots) s.confirmations s.kept
 
--- what a call is judged by before it acts: any number but 0 is what it is refused with; with 0 it may act
-pub record Judged (x : State) (k : Call) (may : Type 0) (no : ℕ) : Type 0 where
-  pub act : no ≡ 0 → may
-  pub refuse : (no ≡ 0 → ⊥) → Called x k x (K.refused no)
+-- what every call begins with: the cells are right and the site sound, or every call is refused
+abbrev pub Door : {T : Type 0} → State → Result T Refusal → Type 0
+Door x (Ok v) = RightCells x × SoundState x
+Door x (Err r) = (k : Call) → Called x k x (K.refused (number_of r))
 
--- the slot of a queued id, or 128
-pub record SlotOf (slots : List Slot) (id i : ℕ) : Type 0 where
-  pub within : i ≤ 128
-  pub found : i < 128 → ((slot_at slots i).id ≡ id) × (0 < id)
-  pub absent : 128 ≤ i → (j : ℕ) → j < 128 → 0 < (slot_at slots j).id → (slot_at slots j).id ≡ id → ⊥
+-- what a call is judged by before it acts: it may act, with what was found, or is refused
+abbrev pub Judged : {T : Type 0} → State → Call → (T → Type 0) → Result T Refusal → Type 0
+Judged x k may (Ok v) = may v
+Judged x k may (Err r) = Called x k x (K.refused (number_of r))
+
+-- the slot of a queued id, if it is queued
+abbrev pub SlotOf : List Slot → ℕ → Option ℕ → Type 0
+SlotOf slots id (Some i) = (i < 128) × ((slot_at slots i).id ≡ id) × (0 < id)
+SlotOf slots id None = (j : ℕ) → j < 128 → 0 < (slot_at slots j).id → (slot_at slots j).id ≡ id → ⊥
 
 -- slot i takes v and stands at the end of its class's queue
 pub record Placed (s : Site) (i : ℕ) (v : Slot) (r : Site) : Type 0 where
-  pub is : store r ≡ placed (store s) v.class i v r.low r.high
-  pub used : used_of r.low r.high ≡ set (used_of s.low s.high) i true
+  pub is : store r ≡ placed (store s) v.class i v r.used.lo r.used.hi
+  pub used : used_of r.used.lo r.used.hi ≡ set (used_of s.used.lo s.used.hi) i true
 
 -- class c has a head that is an entry, or not executed
 pub record MayWork (x : State) (c : ℕ) : Type 0 where

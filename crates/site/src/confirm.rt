@@ -8,14 +8,12 @@ ghost use Rattle.plain.specs.Decides.{Decides};
 ghost use Rattle.site.specs.Held.{store, state_of, answer_of, Judged, MayConfirm, Confirmable, HeadDone, InQueue};
 
 use crate::waiting::backed;
-use crate::{Answer, CLASS_PLACES, Reply, SLOTS, Site};
+use crate::{Answer, CLASS_PLACES, Refusal, Reply, Site};
 use kept::KEPT;
-use slots::Slot;
 
-// What came of judging a confirmation: the number that refuses it, or 0 and where its request is.
+// Where a request is that may be confirmed.
 #[derive(Clone, Copy)]
 struct Found {
-    no: u8,
     slot: usize,
     class: usize,
 }
@@ -27,15 +25,13 @@ impl Site {
         ensures { PlaceOf (store self) c i result }
     {
         let len = self.lens[c] as usize;
-        let mut p = 0;
-        while p < len {
+        for p in 0..len {
             let x = self.queue[CLASS_PLACES * c + p];
             if x as usize == i {
                 return p;
             }
-            p += 1;
         }
-        p
+        len
     }
 
     // The head of class c is put back: nothing done, not declined, put back once more, and the working cells of the class become the committed ones.
@@ -72,14 +68,6 @@ impl Site {
         self = self.numbered(i);
         places::move_forward(&mut self.queue, c, from, to);
         self
-    }
-
-    // Slot i.
-    fn slot(self, i: usize) -> Slot
-        requires { i < 128 }
-        ensures { result ≡ slot_at self.slots i }
-    {
-        self.slots[i]
     }
 
     // Whether slot i is the executed head of class c.
@@ -141,6 +129,7 @@ impl Site {
     }
 
     // Confirms the request in slot i, which is the executed head of its class: it commits.
+    // kept: what `numbered` does stands here again, since one function for both takes a site of stack more.
     fn confirm_now(mut self, committed: &mut [u32], working: &[u32], i: usize) -> Reply
         requires { Confirmable (state_of self committed.old working.now) i × HeadDone (store self) i }
         ensures { Did (state_of self committed.old working.now) (confirm (slot_at self.slots i).id (self.confirmations + 1)) (state_of result.site committed.new working.now) (answer_of result.answer []) }
@@ -165,41 +154,34 @@ impl Site {
         }
     }
 
-    // What refuses a confirmation: 1, 2, 6, 7, 8 or 9; or 0, with the request's slot and class.
-    fn judge_confirm(self, committed: &[u32], working: &[u32], id: u64, number: u64) -> Found
-        ensures { Judged (state_of self committed.now working.now) (confirm id number) (MayConfirm (state_of self committed.now working.now) id number result.slot result.class) result.no }
+    // Where the request is that a confirmation is for, and else why it is refused: 1, 2, 6, 7, 8 or 9.
+    fn judge_confirm(
+        self,
+        committed: &[u32],
+        working: &[u32],
+        id: u64,
+        number: u64,
+    ) -> Result<Found, Refusal>
+        ensures { Judged (state_of self committed.now working.now) (confirm id number) (λ f. MayConfirm (state_of self committed.now working.now) id number f.slot f.class) result }
     {
-        let mut f = Found {
-            no: 0,
-            slot: 0,
-            class: 0,
-        };
-        let no = self.door(committed, working);
-        if no != 0 {
-            f.no = no;
-            return f;
-        }
+        self.door(committed, working)?;
         if self.confirmations == u32::MAX {
-            f.no = 6;
-            return f;
+            return Err(Refusal::NumbersUsedUp);
         }
         if number != (self.confirmations as u64) + 1 {
-            f.no = 7;
-            return f;
+            return Err(Refusal::OutOfTurn);
         }
-        let i = self.slot_of(id);
-        if SLOTS <= i {
-            f.no = 8;
-            return f;
-        }
-        let v = self.slot(i);
+        let Some(slot) = self.slot_of(id) else {
+            return Err(Refusal::NotQueued);
+        };
+        let v = self.slots[slot];
         if v.number != 0 {
-            f.no = 9;
-            return f;
+            return Err(Refusal::ConfirmedAlready);
         }
-        f.slot = i;
-        f.class = v.class as usize;
-        f
+        Ok(Found {
+            slot: slot,
+            class: v.class as usize,
+        })
     }
 
     // Confirms a queued id under the next number; answers the commit, or W and the id put back; or refuses with 1, 2, 6, 7, 8 or 9.
@@ -212,13 +194,16 @@ impl Site {
     ) -> Reply
         ensures { Called (state_of self committed.old working.old) (confirm id number) (state_of result.site committed.new working.new) (answer_of result.answer []) }
     {
-        let found = self.judge_confirm(&*committed, &*working, id, number);
-        if found.no != 0 {
-            return Reply {
-                site: self,
-                answer: Answer::Refused(found.no),
-            };
-        }
+        let found = match self.judge_confirm(&*committed, &*working, id, number) {
+            Ok(found) => found,
+            Err(refusal) => {
+                let no = refusal.number();
+                return Reply {
+                    site: self,
+                    answer: Answer::Refused(no),
+                };
+            }
+        };
         let i = found.slot;
         let c = found.class;
         if self.head_done(c, i) {

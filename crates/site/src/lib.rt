@@ -1,51 +1,55 @@
 // The site: its value, the check that it is sound with its cells, and fresh. The calls stand in offer, work, confirm, look and query.
 #![tactic(auto)]
 
-ghost use Rattle.std.specs.Prelude.{◌≡◌, ◌+◌, length};
+ghost use Rattle.std.specs.Prelude.{◌≡◌, ◌+◌, length, is_some, IfSome};
 ghost use Rattle.plain.specs.Decides.{Decides};
 ghost use Rattle.store.specs.Sound.{Sound};
-ghost use Rattle.store.specs.Checks.{SlotsIn, Owned};
+ghost use Rattle.store.specs.Checks.{SlotsIn, Owned, Heads};
 ghost use Rattle.store.specs.Calls.{Started};
-ghost use Rattle.site.specs.Held.{store, state_of, Door};
+ghost use Rattle.site.specs.Held.{store, state_of, InOrder, Door};
+ghost use Rattle.site.specs.Refusals.{number_or_none};
 
 mod confirm;
 mod look;
 mod offer;
 mod query;
+mod refusal;
 mod waiting;
 mod work;
 
-use cells::{RUN, clear};
-use checks::{CLASS_PLACES, Owners, SLOT_LIMIT, cells_ok, gather_owners, gather_stages, laid_out};
+use cells::RUN;
+use checks::{
+    CLASS_PLACES, Owners, PLACES, QUERIES, SLOT_LIMIT, SLOTS, cells_ok, gather_owners,
+    gather_stages, laid_out,
+};
 use kept::{KEPT, kept_ok};
 use queries::Query;
-use slots::{Slot, free_slot};
-
-// Slots are 0 to 127.
-pub const SLOTS: usize = 128;
+pub use refusal::Refusal;
+use slots::Slot;
+use usedmap::UsedMap;
 
 // A class is below 16 and a cell below 64; what a caller gives may be any number.
-const CLASSES: u64 = 16;
+const CLASSES: u64 = cells::CLASSES as u64;
 
-const CELLS: u64 = 64;
+const CELLS: u64 = cells::CELLS as u64;
 
 #[repr(C)]
 #[derive(Clone, Copy)]
 pub struct Site {
-    pub slots: [Slot; 128],
-    pub queue: [u8; 2176],
-    pub lens: [u8; 16],
-    pub low: u64,
-    pub high: u64,
+    pub slots: [Slot; SLOTS],
+    pub queue: [u8; PLACES],
+    pub lens: [u8; cells::CLASSES],
+    pub used: UsedMap,
     pub confirmations: u32,
     pub commits: u32,
     pub kept: [u32; KEPT],
-    pub queries: [Query; 8],
+    pub queries: [Query; QUERIES],
     pub begun: u32,
-    pub sums: [u16; 16],
+    pub sums: [u16; cells::CLASSES],
 }
 
 // What a call answers; document 01's number and values for each case are in specs/Held.
+// kept: 0 for none in `back` and `mark`, as document 01 has these numbers; a refusal by its number, since `line_of` of `line` takes any answer, also one with a number that no refusal has.
 #[derive(Clone, Copy)]
 pub enum Answer {
     Refused(u8),
@@ -97,53 +101,42 @@ pub struct Reply {
     pub answer: Answer,
 }
 
-// A fresh site, and 0; or an empty one, and the number of the refusal.
+// A fresh site; or an empty one, and why it is none.
+// kept: no Result, since a host is handed the empty site too.
 #[derive(Clone, Copy)]
 pub struct Fresh {
     pub site: Site,
-    pub refused: u8,
+    pub refused: Option<Refusal>,
 }
 
 impl Site {
     // No request queued, no query open, all counts 0, all cells 0. With wrong cells it touches none.
     pub fn fresh(committed: &mut [u32], working: &mut [u32]) -> Fresh
-        ensures { Started committed.old working.old (store result.site) result.refused committed.new working.new }
+        ensures { Started committed.old working.old (store result.site) (number_or_none result.refused) committed.new working.new }
     {
-        let free = free_slot();
-        let none = Query {
-            classes: 0,
-            begun: 0,
-        };
         let site = Site {
-            slots: [free; 128],
-            queue: [0; 2176],
-            lens: [0; 16],
-            low: 0,
-            high: 0,
+            slots: [Slot::default(); SLOTS],
+            queue: [0; PLACES],
+            lens: [0; cells::CLASSES],
+            used: UsedMap::default(),
             confirmations: 0,
             commits: 0,
             kept: [0; KEPT],
-            queries: [none; 8],
+            queries: [Query::default(); QUERIES],
             begun: 0,
-            sums: [0; 16],
+            sums: [0; cells::CLASSES],
         };
-        if committed.len() != RUN {
+        if committed.len() != RUN || working.len() != RUN {
             return Fresh {
                 site: site,
-                refused: 1,
+                refused: Some(Refusal::WrongCells),
             };
         }
-        if working.len() != RUN {
-            return Fresh {
-                site: site,
-                refused: 1,
-            };
-        }
-        clear(committed);
-        clear(working);
+        committed.fill(0);
+        working.fill(0);
         Fresh {
             site: site,
-            refused: 0,
+            refused: None,
         }
     }
 
@@ -152,69 +145,59 @@ impl Site {
         requires { (length committed.now ≡ 1024) × (length working.now ≡ 1024) }
         ensures { Decides result (Sound (store self) committed.now working.now) }
     {
-        let o = gather_owners(
-            self.slots,
-            (self.confirmations as u64) + (self.begun as u64),
-        );
-        if !o.ok {
-            return false;
+        match self.heads() {
+            Some(heads) => cells_ok(self.slots, heads, committed, working),
+            None => false,
         }
-        self.sound_given(&o, committed, working)
     }
 
-    // Whether the site is sound with its cells, where its slots are in order and `o` has their ids and classes.
-    fn sound_given(self, o: &Owners, committed: &[u32], working: &[u32]) -> bool
-        requires right { (length committed.now ≡ 1024) × (length working.now ≡ 1024) }
-        requires in_order { SlotsIn self.slots (self.confirmations + self.begun) }
-        requires owned { Owned self.slots o.now.ids o.now.classes }
-        ensures { Decides result (Sound (store self) committed.now working.now) }
+    // Whether the site keeps its rules but for the cells: if so, what stands at the head of each class, 128 where its queue is empty.
+    fn heads(self) -> Option<[u8; cells::CLASSES]>
+        ensures decides { Decides (is_some result) (InOrder (store self)) }
+        ensures heads { IfSome result (Heads self.queue self.lens) }
     {
-        let slots = self.slots;
-        let table = self.queries;
-        let g = gather_stages(slots, table);
-        let kept = self.kept;
-        if !kept_ok(&o.ids, &g.lines, kept, self.confirmations) {
-            return false;
+        let top = (self.confirmations as u64) + (self.begun as u64);
+        match &gather_owners(self.slots, top) {
+            Some(owners) => self.heads_given(owners),
+            None => None,
         }
-        let queue = self.queue;
-        let lens = self.lens;
-        let sums = self.sums;
-        let laid = laid_out(
-            &o.ids,
-            &o.classes,
-            &g.lines,
-            &g.dones,
-            &g.marks,
-            &g.dues,
-            queue,
-            lens,
-            sums,
-            table,
-            self.low,
-            self.high,
+    }
+
+    // The same where its slots are in order and `owners` has their ids and classes.
+    fn heads_given(self, owners: &Owners) -> Option<[u8; cells::CLASSES]>
+        requires in_order { SlotsIn self.slots (self.confirmations + self.begun) }
+        requires owned { Owned self.slots owners.now.ids owners.now.classes }
+        ensures decides { Decides (is_some result) (InOrder (store self)) }
+        ensures heads { IfSome result (Heads self.queue self.lens) }
+    {
+        let stages = gather_stages(self.slots, self.queries);
+        if !kept_ok(&owners.ids, &stages.lines, self.kept, self.confirmations) {
+            return None;
+        }
+        laid_out(
+            owners,
+            &stages,
+            self.queue,
+            self.lens,
+            self.sums,
+            self.queries,
+            self.used,
             self.confirmations,
             self.commits,
-        );
-        if !laid.ok {
-            return false;
-        }
-        let heads = laid.heads;
-        cells_ok(slots, heads, committed, working)
+        )
     }
 
-    // The refusal that every call begins with: 1 for wrong cells, 2 for an unsound site, 0 for neither.
-    fn door(self, committed: &[u32], working: &[u32]) -> u8
+    // What every call begins with: the cells are right and the site sound, or why it is refused.
+    // kept: both runs as two parameters, here and in the calls, since which of them is lent to be written differs from call to call.
+    fn door(self, committed: &[u32], working: &[u32]) -> Result<(), Refusal>
         ensures { Door (state_of self committed.now working.now) result }
     {
-        if committed.len() != RUN {
-            return 1;
-        }
-        if working.len() != RUN {
-            return 1;
+        if committed.len() != RUN || working.len() != RUN {
+            return Err(Refusal::WrongCells);
         }
         if !self.sound(committed, working) {
-            return 2;
+            return Err(Refusal::Unsound);
         }
-        0
+        Ok(())
     }
 }

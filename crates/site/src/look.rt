@@ -1,5 +1,5 @@
 // Read and look: what a site answers without changing, and the search of an id.
-ghost use Rattle.std.specs.Prelude.{[], ◌≡◌, ◌<◌};
+ghost use Rattle.std.specs.Prelude.{[], ◌≡◌, ◌<◌, IfSome};
 ghost use Rattle.plain.specs.Queue.{owed};
 ghost use Rattle.plain.specs.Site.{read, look};
 ghost use Rattle.slots.specs.Meaning.{slot_at};
@@ -9,35 +9,35 @@ ghost use Rattle.store.specs.Steps.{Countable, KeptW, WaitingLast};
 ghost use Rattle.store.specs.Calls.{Called};
 ghost use Rattle.site.specs.Held.{store, state_of, answer_of, SlotOf};
 
-use crate::{Answer, CELLS, CLASS_PLACES, CLASSES, SLOT_LIMIT, SLOTS, Site};
+use crate::{Answer, CELLS, CLASS_PLACES, CLASSES, Refusal, SLOT_LIMIT, SLOTS, Site};
 use slots::Slot;
 
-// A slot that is looked at; and W, the sum of its class, where it ends the confirmed part there, else 0.
+// A slot that is looked at; and the sum of its class where it ends the confirmed part there.
 #[derive(Clone, Copy)]
 struct Seen {
     slot: Slot,
-    w: u16,
+    w: Option<u16>,
 }
 
 impl Site {
-    // The slot of a queued id, 128 where it is not queued: the search breaks with the slot.
-    pub(crate) fn slot_of(self, id: u64) -> usize
+    // The slot of a queued id: the search breaks with the slot.
+    // kept: the form of this search is a rule of the project (docs/DECISIONS.md, Forms).
+    pub(crate) fn slot_of(self, id: u64) -> Option<usize>
         ensures { SlotOf self.slots id result }
     {
         if id == 0 {
-            return SLOTS;
+            return None;
         }
         let mut i = 0;
-        let at = loop {
+        loop {
             if SLOTS <= i {
-                break SLOTS;
+                break None;
             }
             if self.slots[i].id as u64 == id {
-                break i;
+                break Some(i);
             }
             i += 1;
-        };
-        at
+        }
     }
 
     // The operations still to do by slot s and by all before it in the queue of class c; an entry of a query counts 1.
@@ -47,8 +47,7 @@ impl Site {
     {
         let len = self.lens[c] as usize;
         let mut w: u32 = 0;
-        let mut p = 0;
-        while p < len {
+        for p in 0..len {
             let b = self.queue[CLASS_PLACES * c + p];
             let i = b as usize;
             if b < SLOT_LIMIT {
@@ -61,7 +60,6 @@ impl Site {
             if i == s {
                 return w;
             }
-            p += 1;
         }
         w
     }
@@ -69,32 +67,23 @@ impl Site {
     // Slot i, and its W where it ends the confirmed part of its class. The end is sought by halves, since all behind a waiting request wait.
     fn seen(self, i: usize) -> Seen
         requires { Laid (store self) × (i < 128) × ((slot_at self.slots i).class < 16) × WaitingLast (store self) (slot_at self.slots i).class }
-        ensures { (result.slot ≡ slot_at self.slots i) × KeptW (store self) i result.w }
+        ensures { (result.slot ≡ slot_at self.slots i) × IfSome result.w (KeptW (store self) i) }
     {
         let v = self.slots[i];
         let c = v.class as usize;
-        let mut from = 0;
-        let mut to = self.lens[c] as usize;
-        while from < to {
-            let p = (from + to) / 2;
-            let b = self.queue[CLASS_PLACES * c + p];
-            if b < SLOT_LIMIT {
-                if self.slots[b as usize].number == 0 {
-                    to = p;
-                    continue;
-                }
-            }
-            from = p + 1;
+        let a = CLASS_PLACES * c;
+        let queue = &self.queue[a..a + self.lens[c] as usize];
+        let behind = queue.partition_point(|b| SLOT_LIMIT <= *b
+            || self.slots[*b as usize].number != 0);
+        if behind == 0 {
+            return Seen { slot: v, w: None };
         }
-        if from == 0 {
-            return Seen { slot: v, w: 0 };
-        }
-        if self.queue[CLASS_PLACES * c + from - 1] as usize != i {
-            return Seen { slot: v, w: 0 };
+        if queue[behind - 1] as usize != i {
+            return Seen { slot: v, w: None };
         }
         Seen {
             slot: v,
-            w: self.sums[c],
+            w: Some(self.sums[c]),
         }
     }
 
@@ -102,15 +91,14 @@ impl Site {
     pub fn read(self, committed: &[u32], working: &[u32], class: u64, cell: u64) -> Answer
         ensures { Called (state_of self committed.now working.now) (read class cell) (state_of self committed.now working.now) (answer_of result []) }
     {
-        let no = self.door(committed, working);
-        if no != 0 {
-            return Answer::Refused(no);
+        if let Err(refusal) = self.door(committed, working) {
+            return Answer::Refused(refusal.number());
         }
         if CLASSES <= class {
-            return Answer::Refused(10);
+            return Answer::Refused(Refusal::NoSuchClass.number());
         }
         if CELLS <= cell {
-            return Answer::Refused(12);
+            return Answer::Refused(Refusal::NoSuchCell.number());
         }
         let at = cells::CELLS * (class as usize) + (cell as usize);
         Answer::Value(committed[at])
@@ -120,22 +108,20 @@ impl Site {
     pub fn look(self, committed: &[u32], working: &[u32], id: u64) -> Answer
         ensures { Called (state_of self committed.now working.now) (look id) (state_of self committed.now working.now) (answer_of result []) }
     {
-        let no = self.door(committed, working);
-        if no != 0 {
-            return Answer::Refused(no);
+        if let Err(refusal) = self.door(committed, working) {
+            return Answer::Refused(refusal.number());
         }
-        let i = self.slot_of(id);
-        if SLOTS <= i {
-            return Answer::Refused(8);
-        }
+        let Some(i) = self.slot_of(id) else {
+            return Answer::Refused(Refusal::NotQueued.number());
+        };
         let s = self.seen(i);
         let v = s.slot;
         if v.number == 0 {
             return Answer::Unconfirmed { backs: v.backs };
         }
-        if s.w != 0 {
+        if let Some(w) = s.w {
             return Answer::ToDo {
-                w: s.w as u32,
+                w: w as u32,
                 backs: v.backs,
             };
         }

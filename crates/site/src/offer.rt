@@ -4,11 +4,10 @@ ghost use Rattle.plain.specs.Site.{offer};
 ghost use Rattle.store.specs.Calls.{RightCells, SoundState, Did, Called};
 ghost use Rattle.site.specs.Held.{state_of, answer_of, Placed};
 
-use crate::{Answer, CLASS_PLACES, Reply, SLOTS, Site};
+use crate::{Answer, CLASS_PLACES, Refusal, Reply, SLOTS, Site};
 use kept::{KEPT, among};
 use slots::Slot;
 use slots::decode::read_record;
-use usedmap::UsedMap;
 
 impl Site {
     // Slot s takes v and stands at the end of its class's queue.
@@ -23,13 +22,7 @@ impl Site {
         let at = CLASS_PLACES * c + (len as usize);
         self.queue[at] = (s % 256) as u8;
         self.lens[c] = len + 1;
-        let old = UsedMap {
-            lo: self.low,
-            hi: self.high,
-        };
-        let map = old.with_used(s);
-        self.low = map.lo;
-        self.high = map.hi;
+        self.used = self.used.with_used(s);
         self
     }
 
@@ -38,39 +31,33 @@ impl Site {
         requires { RightCells (state_of self committed.now working.now) × SoundState (state_of self committed.now working.now) }
         ensures { Did (state_of self committed.now working.now) (offer bytes.now) (state_of result.site committed.now working.now) (answer_of result.answer []) }
     {
-        let got = read_record(bytes);
-        if !got.ok {
+        let Some(v) = read_record(bytes) else {
             return Reply {
                 site: self,
-                answer: Answer::Refused(3),
+                answer: Answer::Refused(Refusal::NoRecord.number()),
             };
-        }
-        let v = got.slot;
+        };
         let id = v.id;
         let class = v.class;
-        if self.slot_of(id as u64) < SLOTS {
+        if self.slot_of(id as u64).is_some() {
             return Reply {
                 site: self,
-                answer: Answer::Refused(4),
+                answer: Answer::Refused(Refusal::IdQueued.number()),
             };
         }
         if among(&self.kept, KEPT, id) {
             return Reply {
                 site: self,
-                answer: Answer::Refused(14),
+                answer: Answer::Refused(Refusal::IdKept.number()),
             };
         }
-        let map = UsedMap {
-            lo: self.low,
-            hi: self.high,
-        };
-        if map.used_count() == 128 {
+        if self.used.used_count() as usize == SLOTS {
             return Reply {
                 site: self,
-                answer: Answer::Refused(5),
+                answer: Answer::Refused(Refusal::SlotsFull.number()),
             };
         }
-        let s = map.lowest_free();
+        let s = self.used.lowest_free().unwrap();
         self = self.enqueue(s, v);
         let c = class as usize;
         let place = self.lens[c];
@@ -89,11 +76,10 @@ impl Site {
     pub fn offer(mut self, committed: &[u32], working: &[u32], bytes: &[u8]) -> Reply
         ensures { Called (state_of self committed.now working.now) (offer bytes.now) (state_of result.site committed.now working.now) (answer_of result.answer []) }
     {
-        let no = self.door(committed, working);
-        if no != 0 {
+        if let Err(refusal) = self.door(committed, working) {
             return Reply {
                 site: self,
-                answer: Answer::Refused(no),
+                answer: Answer::Refused(refusal.number()),
             };
         }
         self.offer_sound(committed, working, bytes)

@@ -16,17 +16,15 @@ fn waits_from<'a>(numbers: &'a [u32; SLOTS], queue: &'a [u8; PLACES], a: usize, 
     requires { a + len ≤ place_count }
     ensures { WaitsFrom (nth numbers.now) queue.now a len result }
 {
-    let mut p = 0;
-    while p < len {
+    for p in 0..len {
         let b = queue[a + p];
         if b < SLOT_LIMIT {
             if numbers[b as usize] == 0 {
                 return p;
             }
         }
-        p += 1;
     }
-    p
+    len
 }
 
 // What a request is when it was put back: nothing done, not declined, put back once more.
@@ -55,18 +53,16 @@ impl Site {
 
     // The same of every class.
     #[inline(never)]
-    pub(crate) fn firsts_waiting(&self) -> [usize; 16]
+    pub(crate) fn firsts_waiting(&self) -> [usize; cells::CLASSES]
         requires { Laid (store self.now) }
         ensures { FirstsWaiting (store self.now) result }
     {
         let numbers = gather_numbers(&self.slots);
         let queue = self.queue;
         let lens = self.lens;
-        let mut ends = [0; 16];
-        let mut c = 0;
-        while c < cells::CLASSES {
+        let mut ends = [0; cells::CLASSES];
+        for c in 0..cells::CLASSES {
             ends[c] = waits_from(&numbers, &queue, CLASS_PLACES * c, lens[c] as usize);
-            c += 1;
         }
         ends
     }

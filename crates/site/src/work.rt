@@ -7,11 +7,10 @@ ghost use Rattle.store.specs.Meaning.{cells_of};
 ghost use Rattle.store.specs.Calls.{Did, Called};
 ghost use Rattle.site.specs.Held.{store, state_of, answer_of, Judged, MayWork, Worked};
 
-use crate::{Answer, CLASS_PLACES, CLASSES, Reply, SLOT_LIMIT, Site};
+use crate::{Answer, CLASS_PLACES, CLASSES, Refusal, Reply, SLOT_LIMIT, Site};
 use queries::without;
+use slots::Slot;
 use slots::steps::step;
-use slots::{Slot, free_slot};
-use usedmap::UsedMap;
 
 // Whether a head with these operations done commits: it is executed and confirmed.
 fn commits(v: Slot) -> bool
@@ -67,14 +66,8 @@ impl Site {
         cells::copy_class(committed, working, c);
         let s = self.queue[CLASS_PLACES * c];
         let i = s as usize;
-        self.slots[i] = free_slot();
-        let old = UsedMap {
-            lo: self.low,
-            hi: self.high,
-        };
-        let map = old.with_free(s as u32);
-        self.low = map.lo;
-        self.high = map.hi;
+        self.slots[i] = Slot::default();
+        self.used = self.used.with_free(s as u32);
         let len = self.lens[c];
         places::take_head(&mut self.queue, c, len as usize);
         self.lens[c] = len - 1;
@@ -82,30 +75,27 @@ impl Site {
         self
     }
 
-    // What refuses a work call for a class: 1, 2, 10 or 11; or 0.
-    fn judge_work(self, committed: &[u32], working: &[u32], class: u64) -> u8
-        ensures { Judged (state_of self committed.now working.now) (work class) (MayWork (state_of self committed.now working.now) class) result }
+    // Whether a class may be worked for, and else why it is refused: 1, 2, 10 or 11.
+    fn judge_work(self, committed: &[u32], working: &[u32], class: u64) -> Result<(), Refusal>
+        ensures { Judged (state_of self committed.now working.now) (work class) (λ v. MayWork (state_of self committed.now working.now) class) result }
     {
-        let no = self.door(committed, working);
-        if no != 0 {
-            return no;
-        }
+        self.door(committed, working)?;
         if CLASSES <= class {
-            return 10;
+            return Err(Refusal::NoSuchClass);
         }
         let c = class as usize;
         if self.lens[c] == 0 {
-            return 11;
+            return Err(Refusal::NothingToDo);
         }
         let b = self.queue[CLASS_PLACES * c];
         if SLOT_LIMIT <= b {
-            return 0;
+            return Ok(());
         }
         let v = self.slots[b as usize];
         if v.done == v.count {
-            return 11;
+            return Err(Refusal::NothingToDo);
         }
-        0
+        Ok(())
     }
 
     // The head of class c does its next operation, and commits if that was its last and it is confirmed. An entry of a query is read and leaves; its
@@ -148,11 +138,10 @@ impl Site {
     pub fn work(mut self, committed: &mut [u32], working: &mut [u32], class: u64) -> Reply
         ensures { Called (state_of self committed.old working.old) (work class) (state_of result.site committed.new working.new) (answer_of result.answer (cells_of committed.new class)) }
     {
-        let no = self.judge_work(&*committed, &*working, class);
-        if no != 0 {
+        if let Err(refusal) = self.judge_work(&*committed, &*working, class) {
             return Reply {
                 site: self,
-                answer: Answer::Refused(no),
+                answer: Answer::Refused(refusal.number()),
             };
         }
         let c = class as usize;

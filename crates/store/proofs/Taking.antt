@@ -171,11 +171,21 @@ none_flagged : (i : ℕ) → flag_of 0 0 i ≡ false
 unfolding used_of bits_of
 none_flagged i = get_same 128 i
 
-pub nothing_left : (class : ℕ → ℕ) (table : List Query) (lo hi : ℕ) → lo ≡ 0 → hi ≡ 0 → AllRead table → (d b : ℕ) → d < 16 → may_stand (flag_of lo hi) class table d b ≡ 0
-nothing_left class table lo hi a a' r d b l =
+pub nothing_left : (class : ℕ → ℕ) (table : List Query) (lo hi : ℕ) → ((i : ℕ) → i < 128 → flag_of lo hi i ≡ false) → AllRead table
+    → (d b : ℕ) → d < 16 → may_stand (flag_of lo hi) class table d b ≡ 0
+nothing_left class table lo hi a r d b l =
     by_test (ltb b 128)
-    (λ t. rw (t, a, a', none_flagged b))
+    (λ t. rw (t, a b (ltb-true b 128 t)))
     (λ f. rw (f, r (b - 128) d l))
+
+-- the map marks no slot exactly where both its words are 0
+pub no_flags : (lo hi : ℕ) → lo ≡ 0 → hi ≡ 0 → (i : ℕ) → flag_of lo hi i ≡ false
+no_flags lo hi a b i = rw (a, b) (none_flagged i)
+
+pub words_zero : (lo hi : ℕ) → lo < 2 ^ 64 → hi < 2 ^ 64 → ((i : ℕ) → i < 128 → flag_of lo hi i ≡ false) → (lo ≡ 0) × (hi ≡ 0)
+words_zero lo hi a b free =
+    used_inj lo hi 0 0 a b (omega arith) (omega arith)
+    (ext_get_or false (used_of lo hi) (used_of 0 0) (used_length lo hi ∙ sym (used_length 0 0)) (λ i l. free i (omega (arith, used_length lo hi)) ∙ sym (none_flagged i)))
 
 pub read_past : (table : List Query) → length table ≡ 8 → ((p : ℕ) → p < 8 → NamesNone (query_at table p).classes) → AllRead table
 read_past table n h p = by_test (ltb p 8)
@@ -183,15 +193,10 @@ read_past table n h p = by_test (ltb p 8)
     (λ f d _. let z : query_at table p ≡ free_query = get_or-eq_default table free_query (omega (arith, ltb-false p 8 f)) in rw (z, none_named d))
 
 module _ (class : ℕ → ℕ) (table : List Query) (lo hi : ℕ) (k : Classed class) (z : (d b : ℕ) → d < 16 → may_stand (flag_of lo hi) class table d b ≡ 0) where
-  pub all_free : lo < 2 ^ 64 → hi < 2 ^ 64 → (lo ≡ 0) × (hi ≡ 0)
-  all_free a b =
-      used_inj lo hi 0 0 a b (omega arith) (omega arith)
-      (ext_get_or false (used_of lo hi) (used_of 0 0) (used_length lo hi ∙ sym (used_length 0 0)) (λ i l. free i (omega (arith, used_length lo hi)) ∙ sym (none_flagged i)))
-    where
-      free : (i : ℕ) → i < 128 → flag_of lo hi i ≡ false
-      free i l = by_test (flag_of lo hi i)
-          (λ t. let e : ◌≡◌ {A = ℕ} 1 0 = rw (lt-ltb i 128 l, t, eq-eqb (class i) (class i) refl) at (z (class i) i (k i l)) in absurd (omega arith))
-          (λ f. f)
+  pub all_free : (i : ℕ) → i < 128 → flag_of lo hi i ≡ false
+  all_free i l = by_test (flag_of lo hi i)
+      (λ t. let e : ◌≡◌ {A = ℕ} 1 0 = rw (lt-ltb i 128 l, t, eq-eqb (class i) (class i) refl) at (z (class i) i (k i l)) in absurd (omega arith))
+      (λ f. f)
 
   pub all_read : AllRead table
   all_read p c m = by_test (named (query_at table p).classes c)

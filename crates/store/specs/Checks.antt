@@ -120,19 +120,6 @@ pub record Took (may rest : ℕ → ℕ → ℕ) (queue : List ℕ) (c n : ℕ) 
 abbrev pub TooOften : (may : ℕ → ℕ → ℕ) → List ℕ → (c n : ℕ) → Type 0
 TooOften may queue c n = (b : ℕ) × (may c b < times b (take n (part queue c)))
 
--- what came of taking place b in the queue of class c, and of taking the first n places: all may stand, or one stands that may not
-pub record OneTaken (class : ℕ → ℕ) (lo hi : ℕ) (table : List Query) (c b : ℕ) (ok : Bool) (lo' hi' : ℕ) (table' : List Query) : Type 0 where
-  pub taken : ok ≡ true → TookOne (may_stand (flag_of lo hi) class table) (may_stand (flag_of lo' hi') class table') c b
-  pub barred : ok ≡ false → may_stand (flag_of lo hi) class table c b ≡ 0
-
--- an entry is of no class
-abbrev pub EntryTaken : (lo hi : ℕ) → List Query → (c b : ℕ) → Bool → (lo' hi' : ℕ) → List Query → Type 0
-EntryTaken lo hi table c b ok lo' hi' table' = (class : ℕ → ℕ) → OneTaken class lo hi table c b ok lo' hi' table'
-
-pub record ClassTaken (class : ℕ → ℕ) (lo hi : ℕ) (table : List Query) (queue : List ℕ) (c n : ℕ) (ok : Bool) (lo' hi' : ℕ) (table' : List Query) : Type 0 where
-  pub all_taken : ok ≡ true → Took (may_stand (flag_of lo hi) class table) (may_stand (flag_of lo' hi') class table') queue c n
-  pub one_barred : ok ≡ false → TooOften (may_stand (flag_of lo hi) class table) queue c n
-
 -- a mask names no class; no query has one still to read
 abbrev pub NamesNone : ℕ → Type 0
 NamesNone mask = (c : ℕ) → c < class_count → named mask c ≡ false

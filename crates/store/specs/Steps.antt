@@ -187,9 +187,9 @@ pub record EndsPart (s : Store) (c i : ℕ) : Type 0 where
   pub some : 0 < until
   pub is : get_or s.queue (136 * c + (until - 1)) 0 ≡ i
 
--- W of slot i, if it is not 0, is the sum that stands with its class, and the slot ends the confirmed part there
+-- slot i ends the confirmed part of its class, and w is the sum that stands there
 abbrev pub KeptW : Store → ℕ → ℕ → Type 0
-KeptW s i w = 0 < w → (w ≡ get_or s.sums (slot_at s.slots i).class 0) × EndsPart s (slot_at s.slots i).class i
+KeptW s i w = (w ≡ get_or s.sums (slot_at s.slots i).class 0) × EndsPart s (slot_at s.slots i).class i
 
 -- in class c's queue all behind a waiting one wait
 abbrev pub WaitingLast : Store → ℕ → Type 0

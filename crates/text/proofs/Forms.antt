@@ -70,17 +70,17 @@ same_line o h =
     by_code (λ p. line_of o ≡ op_line p) o f.known.0 f.known.1
     (λ e. rw e) (λ e. rw e) (λ e. rw e) (λ e. rw e)
 
-pub pieces : (o : Op) → OpOk o
-    → (((get_or names o.code [] ++ blanked (o.cell ∷ [])) ++ blanked (seconds o.code o.second)) ++ blanked (o.amount ∷ [])) ++ (newline ∷ [])
+pub pieces : (o : Op) → OpOk o → (code : ℕ) → code ≡ o.code
+    → (((get_or names code [] ++ blanked (o.cell ∷ [])) ++ blanked (seconds code o.second)) ++ blanked (o.amount ∷ [])) ++ (newline ∷ [])
     ≡ op_line (op_of o)
-pieces o h = simp append_assoc (sym (code_line_lem o.code o.cell o.second o.amount) ∙ same_line o h)
+pieces o h code e = rw e (simp append_assoc (sym (code_line_lem o.code o.cell o.second o.amount) ∙ same_line o h))
 
 -- the pieces of a line of an operation that keeps its rules are short
 pub record Short (o : Op) : Type 0 where
-  pub name : length (get_or names o.code []) ≤ 4
+  pub name : (code : ℕ) → length (get_or names code []) ≤ 4
   pub cell : length (blanked (o.cell ∷ [])) ≤ 3
   pub second : length (blanked (o.second ∷ [])) ≤ 3
-  pub seconds : length (blanked (seconds o.code o.second)) ≤ 3
+  pub seconds : (code : ℕ) → length (blanked (seconds code o.second)) ≤ 3
   pub amount : length (blanked (o.amount ∷ [])) ≤ 11
 
 pub short : (o : Op) → OpOk o → Short o
@@ -90,10 +90,10 @@ short o h =
     (λ y. omega (arith, f.zero (ltb-true _ _ y)))
     (λ n. omega (arith, (f.second (omega (arith, ltb-false o.code 4 n))).0)) in
     record {
-      name = name_short o.code;
+      name = name_short;
       cell = blanked_short o.cell 2 (omega arith) (omega arith);
       second = blanked_short o.second 2 (omega arith) (omega arith);
-      seconds = seconds_short o.code o.second j;
+      seconds = λ code. seconds_short code o.second j;
       amount = blanked_short o.amount 10 (omega arith) (omega arith);
     }
 

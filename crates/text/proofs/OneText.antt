@@ -102,9 +102,9 @@ op_short o h =
       length-append cell (second ++ (amount ++ (newline ∷ []))),
       length-append second (amount ++ (newline ∷ [])),
       length-append amount (newline ∷ []),
-      s.name,
+      s.name a.code,
       s.cell,
-      s.seconds,
+      s.seconds a.code,
       s.amount,
     )
 

@@ -3,7 +3,7 @@ use Prim.Native.Nat.{ℕ, ◌+◌, ◌<◌, ◌≤◌}
 use native.Mathlib.Omega.{arith}
 use native.Mathlib.Numerals.{add-one}
 use mathlib.Core.Path.{◌≡◌, refl, sym, ap, ◌∙◌, subst}
-use mathlib.Core.Bool.{Bool, true, false}
+use mathlib.Core.Bool.{true}
 use mathlib.Core.List.{List, ◌++◌, append_assoc, append-nil, map}
 use lib.ListN.{length, get_or, take, drop, set, replicate, length-set, length-map, get_or-replicate, drop_of_length-le, length-drop}
 use lib.Seq.{length-take-le, get_or-take, take-suc-set, get_or-set_same, get_or-set_other}
@@ -11,11 +11,10 @@ use borrow.Author.Count.{below_more}
 use Rattle.plain.specs.Sizes.{most_ops}
 use Rattle.plain.specs.Ops as P
 use Rattle.plain.specs.Sound.{All}
-use Rattle.plain.proofs.Tests.{no}
 use Rattle.cells.specs.declared.Op.{Op}
 use Rattle.cells.specs.Ops.{no_op, op_of, OpOk}
 use Rattle.slots.specs.declared.Slot.{Slot}
-use Rattle.slots.specs.Meaning.{request_of}
+use Rattle.slots.specs.Meaning.{request_of, slot_free}
 use Rattle.slots.specs.Rules.{New}
 use Rattle.slots.proofs.Records.{all_from, map_of_all, holds}
 use Rattle.text.specs.Text.{joined, head_line, op_line, op_lines, text_of}
@@ -34,15 +33,15 @@ pub record SoFar (text : List ℕ) (id class : ℕ) (ops : List Op) (at k : ℕ)
   pub ok : (j : ℕ) → j < k → OpOk (get_or ops j no_op)
   pub rest : (j : ℕ) → j < most_ops → k ≤ j → get_or ops j no_op ≡ no_op
 
-pub begun : (text : List ℕ) (id class next : ℕ) (b : Bool) (ops : List Op) → HeadAt text b id class (drop next text) → b ≡ true → next ≤ length text
+pub begun : (text : List ℕ) (id class next : ℕ) (ops : List Op) → HeadAt text id class (drop next text) → next ≤ length text
     → ops ≡ replicate most_ops no_op → SoFar text id class ops next 0
-begun text id class next b ops h y l e =
+begun text id class next ops h l e =
     record {
       few = omega arith;
       within = l;
       long = ap length e;
-      head = h.rules y;
-      stands = h.stands y;
+      head = h.rules;
+      stands = h.stands;
       ok = λ j m. absurd (omega arith);
       rest = λ j m n. ap (λ (os : List Op). get_or os j no_op) e ∙ get_or-replicate most_ops j no_op no_op m;
     }
@@ -50,12 +49,12 @@ begun text id class next b ops h y l e =
 -- what is known of the operations so far
 module _ (text : List ℕ) (id class : ℕ) (ops : List Op) (at k : ℕ) (h : SoFar text id class ops at k) where
   -- one more
-  pub one_more : (o : Op) (next : ℕ) (b : Bool) → k < most_ops → OpLineAt (drop at text) b o (drop next text) → b ≡ true → next ≤ length text
+  pub one_more : (o : Op) (next : ℕ) → k < most_ops → OpLineAt (drop at text) o (drop next text) → next ≤ length text
       → SoFar text id class (set ops k o) next (k + 1)
-  one_more o next b l a y m =
+  one_more o next l a m =
       let in-ops : k < length ops = omega (arith, h.long) in
       let line : drop at text ≡ meant_line o ++ drop next text =
-      a.stands y ∙ ap (λ (t : List ℕ). t ++ drop next text) (same_line o (a.rules y)) in
+      a.stands ∙ ap (λ (t : List ℕ). t ++ drop next text) (same_line o a.rules) in
       let lines : joined meant_line (take (k + 1) (set ops k o)) ≡ joined meant_line (take k ops) ++ meant_line o =
       rw (add-one, take-suc-set ops k o in-ops) (joined_more meant_line (take k ops) o) in
       record {
@@ -71,7 +70,7 @@ module _ (text : List ℕ) (id class : ℕ) (ops : List Op) (at k : ℕ) (h : So
             ∙ ap (λ (t : List ℕ). t ++ drop next text) (sym lines));
         ok = below_more (λ j. OpOk (get_or (set ops k o) j no_op)) k
             (λ j n. subst OpOk (sym (get_or-set_other ops k j o no_op (λ e. omega arith))) (h.ok j n))
-            (subst OpOk (sym (get_or-set_same ops k o no_op in-ops)) (a.rules y));
+            (subst OpOk (sym (get_or-set_same ops k o no_op in-ops)) a.rules);
         rest = λ j n p. get_or-set_other ops k j o no_op (λ e. omega arith) ∙ h.rest j n (omega arith);
       }
 
@@ -120,8 +119,18 @@ module _ (text : List ℕ) (id class : ℕ) (ops : List Op) (at k : ℕ) (h : So
       meant_stands ∙ ap (λ (t : List ℕ). head_line id class ++ (op_lines meant ++ t)) (drop_of_length-le text {i = at} l)
       ∙ ap (λ (t : List ℕ). head_line id class ++ t) (append-nil (op_lines meant))
 
-  pub all_read : (b : Bool) (v : Slot) (line : ℕ) → length text ≤ at → 0 < k → (b ≡ true) × (v ≡ slot) → Parses text b v line
-  all_read b v line l p e =
+  pub all_read : length text ≤ at → 0 < k → (free : Slot) → free ≡ slot_free
+      → Parses text (record {
+        id = id;
+        class = class;
+        count = k;
+        ops = ops;
+        number = free.number;
+        done = free.done;
+        mark = free.mark;
+        backs = free.backs;
+      })
+  all_read l p free e =
       let new : New slot = record {
         held = holds slot h.long
             (λ j m. record { within = h.ok j; past = h.rest j m })
@@ -131,19 +140,14 @@ module _ (text : List ℕ) (id class : ℕ) (ops : List Op) (at k : ℕ) (h : So
         mark = refl;
         backs = refl;
       } in
-      record {
-        long = λ y. ap (λ (x : Slot). length x.ops) e.1 ∙ h.long;
-        new = λ y. subst New (sym e.1) new;
-        stands = λ y. whole l ∙ ap (λ (x : Slot). text_of (request_of x)) (sym e.1);
-        bad = λ z. no _ e.0 z;
-      }
-
--- a text that is bad at a line
-pub refused_at : (text : List ℕ) (b : Bool) (v : Slot) (line n : ℕ) → (b ≡ false) × (line ≡ n) → FirstBad text n → Parses text b v line
-refused_at text b v line n e h =
-    record {
-      long = λ y. no _ y e.0;
-      new = λ y. no _ y e.0;
-      stands = λ y. no _ y e.0;
-      bad = λ z. subst (FirstBad text) (sym e.1) h;
-    }
+      let read : Parses text slot = record { long = h.long; new = new; stands = whole l } in
+      subst (λ (w : Slot). Parses text (record {
+        id = id;
+        class = class;
+        count = k;
+        ops = ops;
+        number = w.number;
+        done = w.done;
+        mark = w.mark;
+        backs = w.backs;
+      })) (sym e) read

@@ -1,60 +1,26 @@
 -- What stands at a place of a text: a word, a name, a number, a line, and that it is the only one. Assumes nothing.
-use Prim.Native.Nat.{ℕ, zero, suc, ◌+◌, ◌<◌, ◌≤◌}
+use Prim.Native.Nat.{ℕ, zero, suc, ◌+◌, ◌≤◌}
 use native.Mathlib.Omega.{arith}
-use native.Mathlib.Numerals.{add-one}
 use mathlib.Core.Path.{◌≡◌, refl, sym, ap, ◌∙◌}
-use mathlib.Core.Bool.{Bool, true, false, cond}
+use mathlib.Core.Bool.{true, false, cond}
 use mathlib.Core.List.{List, [], ◌∷◌, ◌++◌, append_assoc}
 use lib.Dec.{eqb, ltb}
-use lib.ListN.{length, get_or, take, drop, length-append, length-drop, take-append-drop, get_or-append}
-use lib.Seq.{take-suc, take_all, drop-cons, drop-drop, drop-append_seam, get_or-append_seam}
+use lib.ListN.{length, get_or, drop, length-append, length-drop}
+use lib.Seq.{drop-append_seam}
 use borrow.Author.Tests.{ltb-true, ltb-false}
 use Rattle.plain.specs.Ops as P
 use Rattle.plain.specs.Record.{uses_second, names}
-use Rattle.plain.specs.Decides.{Decides}
 use Rattle.plain.proofs.Tests.{by_test, no}
-use Rattle.plain.proofs.Deciding.{decides_as, decides_eq}
-use Rattle.decimal.specs.Decimal.{decimal, blanked, NumberAt}
-use Rattle.decimal.proofs.Runs.{Digit, same_number}
+use Rattle.decimal.specs.Decimal.{Digit, decimal, blanked, NumberAt}
+use Rattle.decimal.proofs.Runs.{same_number}
 use Rattle.cells.specs.declared.Op.{Op}
 use Rattle.cells.specs.Ops.{OpOk}
 use Rattle.cells.proofs.Ops.{facts}
 use Rattle.text.specs.Text.{blank, newline, line_with, head_line, code_line, op_line}
-use Rattle.text.specs.Pieces.{line_of, Begins, NameAt, second_before, SecondAt, OpLineAt}
+use Rattle.text.specs.Pieces.{line_of, NameAt, second_before, SecondAt, NoOpLine}
 use Rattle.text.proofs.Forms.{one_blanked, none_blanked, seconds, code_line_lem}
 
 -- A WORD WITH A BLANK BEHIND IT
-module _ (l word : List ℕ) where
-  pub too_short : length l ≤ length word → Begins word l → ⊥
-  too_short h b = omega (arith, ap length b.1, length-append word (blank ∷ b.0))
-
-  pub letter : (i : ℕ) → i < length word → Begins word l → get_or l i 0 ≡ get_or word i 0
-  letter i h b = ap (λ (t : List ℕ). get_or t i 0) b.1 ∙ get_or-append word (blank ∷ b.0) 0 i h
-
-  pub one_letter_more : (i : ℕ) → i < length l → i < length word → get_or l i 0 ≡ get_or word i 0 → take i l ≡ take i word
-      → take (i + 1) l ≡ take (i + 1) word
-  one_letter_more i h k e f = rw (add-one, take-suc l i 0 h, take-suc word i 0 k, e, f)
-
-  pub decides_blank : (i : ℕ) → i ≡ length word → i < length l → take i l ≡ take i word → Decides (eqb (get_or l i 0) blank) (Begins word l)
-  decides_blank i e h f =
-      decides_as
-      (λ q. (
-        drop (suc i) l,
-        sym (take-append-drop i l) ∙ rw (f, take_all i word (omega arith), drop-cons l i 0 h, q),
-      ))
-      (λ b. rw e (ap (λ (t : List ℕ). get_or t (length word) 0) b.1 ∙ get_or-append_seam word blank b.0 0))
-      (decides_eq (get_or l i 0) blank)
-
--- what stands behind it
-pub behind_word : (text word rest : List ℕ) (at : ℕ) → drop at text ≡ word ++ (blank ∷ rest) → drop (at + length word + 1) text ≡ rest
-behind_word text word rest at e =
-    let m : at + length word + 1 ≡ at + (length word + 1) = omega arith in
-    let w : length (word ++ (blank ∷ [])) ≡ length word + 1 = length-append word (blank ∷ []) in
-    rw m
-    (sym (drop-drop (length word + 1) at text)
-    ∙ ap (drop (length word + 1)) (e ∙ sym (append_assoc word (blank ∷ []) rest))
-    ∙ rw (← w) (drop-append_seam (word ++ (blank ∷ [])) rest))
-
 pub room : (text word rest : List ℕ) (at : ℕ) → drop at text ≡ word ++ (blank ∷ rest) → at + length word + 1 ≤ length text
 room text word rest at e = omega (arith, length-drop at text, ap length e, length-append word (blank ∷ rest))
 
@@ -93,37 +59,20 @@ blank_splits d = omega (arith, d.0)
 pub newline_splits : Digit newline → ⊥
 newline_splits d = omega (arith, d.0)
 
-pub number_is : (t more rest : List ℕ) (stop most v n : ℕ) (ok : Bool) → (Digit stop → ⊥) → NumberAt t stop most ok v rest → ok ≡ true
-    → t ≡ decimal n ++ (stop ∷ more) → (v ≡ n) × (rest ≡ more)
-number_is t more rest stop most v n ok s a y e =
-    let i = same_number v n stop stop rest more s s (sym (a.stands y) ∙ e) in (i.0, i.2)
+pub number_is : (t more rest : List ℕ) (stop most v n : ℕ) → (Digit stop → ⊥) → NumberAt t stop most v rest → t ≡ decimal n ++ (stop ∷ more)
+    → (v ≡ n) × (rest ≡ more)
+number_is t more rest stop most v n s a e =
+    let i = same_number v n stop stop rest more s s (sym a.stands ∙ e) in (i.0, i.2)
 
 -- A SECOND CELL
-pub second_used : (t rest : List ℕ) (code v : ℕ) (ok : Bool) → get_or uses_second code false ≡ true → NumberAt t blank 255 ok v rest
-    → SecondAt t code ok v rest
-second_used t rest code v ok y a = record {
-  small = a.small;
-  stands = λ e. rw y (a.stands e);
-  unused = λ f. no _ y f;
-  none = λ e j more h q. a.none e j more h (rw y at q);
-}
-
-pub second_unused : (t : List ℕ) (code : ℕ) → get_or uses_second code false ≡ false → SecondAt t code true 0 t
-second_unused t code f = record {
-  small = omega arith;
-  stands = λ e. rw f;
-  unused = λ e. refl;
-  none = λ e. no _ refl e;
-}
-
-pub second_is : (t more rest : List ℕ) (code v j : ℕ) (ok : Bool) → SecondAt t code ok v rest → ok ≡ true
-    → (get_or uses_second code false ≡ false → j ≡ 0) → t ≡ second_before code j more → (v ≡ j) × (rest ≡ more)
-second_is t more rest code v j ok a y z e =
+pub second_is : (t more rest : List ℕ) (code v j : ℕ) → SecondAt t code v rest → (get_or uses_second code false ≡ false → j ≡ 0)
+    → t ≡ second_before code j more → (v ≡ j) × (rest ≡ more)
+second_is t more rest code v j a z e =
     by_test (get_or uses_second code false)
     (λ u.
-    let i = same_number v j blank blank rest more blank_splits blank_splits (sym (rw u at (a.stands y)) ∙ (rw u at e)) in
+    let i = same_number v j blank blank rest more blank_splits blank_splits (sym (rw u at a.stands) ∙ (rw u at e)) in
     (i.0, i.2))
-    (λ f. (a.unused f ∙ sym (z f), sym (rw f at (a.stands y)) ∙ (rw f at e)))
+    (λ f. (a.unused f ∙ sym (z f), sym (rw f at a.stands) ∙ (rw f at e)))
 
 -- THE LINE OF AN OPERATION, before what follows it
 pub line_before : (code k j a : ℕ) (more : List ℕ) → code_line code k j a ++ more
@@ -142,12 +91,12 @@ line_before code k j a more =
 abbrev pub behind_name : Op → List ℕ → List ℕ
 behind_name p more = decimal p.cell ++ (blank ∷ second_before p.code p.second (decimal p.amount ++ (newline ∷ more)))
 
-pub name_is : (l rest more : List ℕ) (code : ℕ) (p : Op) → NameAt l code rest → 1 ≤ code → OpOk p → l ≡ line_of p ++ more
+pub name_is : (l rest more : List ℕ) (code : ℕ) (p : Op) → NameAt l code rest → OpOk p → l ≡ line_of p ++ more
     → (code ≡ p.code) × (rest ≡ behind_name p more)
-name_is l rest more code p a h ok e =
+name_is l rest more code p a ok e =
     let f = facts ok in
-    same_name code p.code rest (behind_name p more) h a.known f.known.0 f.known.1
-    (sym (a.stands h) ∙ e ∙ line_before p.code p.cell p.second p.amount more)
+    same_name code p.code rest (behind_name p more) a.known.0 a.known.1 f.known.0 f.known.1
+    (sym a.stands ∙ e ∙ line_before p.code p.cell p.second p.amount more)
 
 -- an operation's second cell is zero where its code uses none, and it fits a byte
 pub no_second : (p : Op) → OpOk p → get_or uses_second p.code false ≡ false → p.second ≡ 0
@@ -189,7 +138,5 @@ struct_line (P.need k a) = refl
 struct_line (P.move k j a) = refl
 
 -- where no struct's line stands, no operation's does
-pub no_op_line : (l rest : List ℕ) (o : Op) (b : Bool) → OpLineAt l b o rest → b ≡ false → (p : P.Op) (more : List ℕ) → P.op_ok p ≡ true
-    → l ≡ op_line p ++ more → ⊥
-no_op_line l rest o b a z p more ok e =
-    a.none z (struct_of p) more (struct_ok p ok) (e ∙ ap (λ (t : List ℕ). t ++ more) (sym (struct_line p)))
+pub no_op_line : (l : List ℕ) → NoOpLine l → (p : P.Op) (more : List ℕ) → P.op_ok p ≡ true → l ≡ op_line p ++ more → ⊥
+no_op_line l none p more ok e = none (struct_of p) more (struct_ok p ok) (e ∙ ap (λ (t : List ℕ). t ++ more) (sym (struct_line p)))

@@ -15,8 +15,8 @@ use Rattle.plain.specs.Sound.{All}
 use Rattle.plain.proofs.Tests.{by_test, all_true, every_true}
 use Rattle.plain.proofs.Items.{is_valid}
 use Rattle.slots.proofs.Records.{map_of_all}
-use Rattle.decimal.specs.Decimal.{decimal, blanked}
-use Rattle.decimal.proofs.Runs.{Digit, all_digits, all_append}
+use Rattle.decimal.specs.Decimal.{Digit, decimal, blanked}
+use Rattle.decimal.proofs.Runs.{all_digits, all_append}
 use Rattle.text.specs.Text.{newline, line_with, joined, op_line, op_lines, head_line, text_of}
 use Rattle.text.specs.Lines.{first_line, after_line, line_behind, FirstBad}
 use Rattle.text.specs.Pieces.{HeadRules}

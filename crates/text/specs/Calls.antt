@@ -1,12 +1,12 @@
 -- What write and read answer, and what they leave in the lent buffer. Assumes nothing.
-use Rattle.std.specs.Prelude.{ℕ, ◌≤◌, ◌<◌, ◌≡◌, List, ◌++◌, length, drop}
+use Rattle.std.specs.Prelude.{ℕ, ◌≤◌, ◌<◌, ◌≡◌, List, ◌++◌, length, drop, Option, Some, None, Result, Ok, Err}
 use Rattle.std.proofs.Math.Option.{none, some}
 use Rattle.plain.specs.Ops.{Request}
 use Rattle.plain.specs.Record.{request}
 use Rattle.text.specs.Text.{text_of}
 use Rattle.text.specs.Lines.{FirstBad}
-use Rattle.text.specs.declared.Outcome.{Outcome}
-use Rattle.text.specs.declared.Outcome.TheVariants.{Length, NoRecord, BadText, TooShort}
+use Rattle.text.specs.declared.Refused.{Refused}
+use Rattle.text.specs.declared.Refused.TheVariants.{NoRecord, BadText, TooShort}
 
 -- an answer: the length of the result, or the number of a refusal, for a bad text with its first bad line
 pub data Answer : Type 0 where
@@ -14,11 +14,25 @@ pub data Answer : Type 0 where
   refused : (number : ℕ) → Answer
   refused_at : (number line : ℕ) → Answer
 
-abbrev pub answer_of : Outcome → Answer
-answer_of (Length n) = wrote n
-answer_of NoRecord = refused 3
-answer_of (BadText line) = refused_at 15 line
-answer_of TooShort = refused 16
+-- the number of a refusal
+abbrev pub number_of : Refused → ℕ
+number_of NoRecord = 3
+number_of (BadText line) = 15
+number_of TooShort = 16
+
+abbrev pub refusal_of : Refused → Answer
+refusal_of NoRecord = refused (number_of NoRecord)
+refusal_of (BadText line) = refused_at (number_of (BadText line)) line
+refusal_of TooShort = refused (number_of TooShort)
+
+abbrev pub answer_of : Result ℕ Refused → Answer
+answer_of (Ok n) = wrote n
+answer_of (Err e) = refusal_of e
+
+-- what several calls answer that wrote n bytes, up to the first that is refused, if one is
+abbrev pub answer_up_to : ℕ → Option Refused → Answer
+answer_up_to n None = wrote n
+answer_up_to n (Some e) = refusal_of e
 
 -- a result is handed over: 16 exactly when the buffer is shorter than it; past the result, and on a refusal, nothing is written
 pub record Handed (result before : List ℕ) (a : Answer) (after : List ℕ) : Type 0 where

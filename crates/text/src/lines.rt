@@ -3,13 +3,14 @@ ghost use Rattle.std.specs.Prelude.{◌+◌, ◌<◌, ◌≤◌, ◌≡◌, fals
 ghost use Rattle.io.specs.Counts.{IsPrefixLen};
 ghost use Rattle.plain.specs.Record.{uses_second, names};
 ghost use Rattle.decimal.specs.Decimal.{blanked};
+ghost use Rattle.cells.specs.Codes.{code_byte};
 ghost use Rattle.cells.specs.Ops.{op_of, OpOk};
 ghost use Rattle.slots.specs.Meaning.{request_of};
 ghost use Rattle.slots.specs.Rules.{Holds};
 ghost use Rattle.text.specs.Text.{op_line, head_line, text_of};
 
 use super::name::name_of;
-use cells::{Op, SECOND};
+use cells::{Code, Op, SECOND};
 use decimal::{put, put_number};
 use slots::Slot;
 
@@ -26,27 +27,23 @@ fn put_blanked(to: &mut [u8], at: usize, n: u32) -> usize
     put_number(to, behind, n as u64)
 }
 
-// Puts the name of an operation code.
-fn put_name(to: &mut [u8], at: usize, code: u8) -> usize
-    requires le_code { (1 ≤ code) × (code ≤ 4) }
-    requires at_in_bounds { at + 4 ≤ length to.old }
-    ensures value { result ≡ at + length (get_or names code []) }
-    ensures to_after { take result to.new ≡ take at to.old ++ get_or names code [] }
+// Puts the name of an operation.
+fn put_name(to: &mut [u8], at: usize, code: Code) -> usize
+    requires { at + 4 ≤ length to.old }
+    ensures value { result ≡ at + length (get_or names (code_byte code) []) }
+    ensures to_after { take result to.new ≡ take at to.old ++ get_or names (code_byte code) [] }
 {
-    let name = name_of(code);
-    let letters = name.letters;
-    let n = name.len;
-    put(to, at, &letters[..n])
+    put(to, at, name_of(code))
 }
 
 // Puts the second cell where an operation of the code uses one.
-fn put_second(to: &mut [u8], at: usize, code: u8, second: u8) -> usize
-    requires { (code ≤ 4) × (at + length (blanked (second ∷ [])) ≤ length to.old) }
-    ensures value { result ≡ at + length (blanked (cond (get_or uses_second code false) (second ∷ []) [])) }
-    ensures to_after { take result to.new ≡ take at to.old ++ blanked (cond (get_or uses_second code false) (second ∷ []) []) }
+fn put_second(to: &mut [u8], at: usize, code: Code, second: u8) -> usize
+    requires { at + length (blanked (second ∷ [])) ≤ length to.old }
+    ensures value { result ≡ at + length (blanked (cond (get_or uses_second (code_byte code) false) (second ∷ []) [])) }
+    ensures to_after { take result to.new ≡ take at to.old ++ blanked (cond (get_or uses_second (code_byte code) false) (second ∷ []) []) }
 {
-    let c = code as usize;
-    if !SECOND[c] {
+    let byte = u8::from(code);
+    if !SECOND[byte as usize] {
         return at;
     }
     put_blanked(to, at, second as u32)
@@ -59,9 +56,10 @@ fn put_op(to: &mut [u8], at: usize, op: Op) -> usize
     ensures upper_bound { result ≤ at + 22 }
     ensures to_after { take result to.new ≡ take at to.old ++ op_line (op_of op) }
 {
-    let named = put_name(to, at, op.code);
+    let code = Code::try_from(op.code).unwrap();
+    let named = put_name(to, at, code);
     let first = put_blanked(to, named, op.cell as u32);
-    let second = put_second(to, first, op.code, op.second);
+    let second = put_second(to, first, code, op.second);
     let amount = put_blanked(to, second, op.amount);
     put(to, amount, b"\n")
 }
@@ -85,11 +83,8 @@ pub fn put_text(to: &mut [u8; LONGEST], slot: Slot) -> usize
 {
     let n = slot.count as usize;
     let mut at = put_head(to, slot.id, slot.class);
-    let mut k = 0;
-    while k < n {
-        let op = slot.ops[k];
-        at = put_op(to, at, op);
-        k += 1;
+    for op in &slot.ops[..n] {
+        at = put_op(to, at, *op);
     }
     at
 }

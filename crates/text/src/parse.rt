@@ -1,119 +1,75 @@
 // A text, read line after line into a slot.
-ghost use Rattle.std.specs.Prelude.{◌≤◌, ◌≡◌, true, false, length, drop};
-ghost use Rattle.text.specs.Pieces.{HeadAt, Parses};
+ghost use Rattle.std.specs.Prelude.{◌≤◌, length, drop, MatchOption, MatchResult, IfSome};
+ghost use Rattle.text.specs.Lines.{FirstBad};
+ghost use Rattle.text.specs.Pieces.{HeadAt, NoHead, Parses};
 
 use super::opline::{BLANK, NEWLINE, op_at};
 use cells::CLASSES;
 use decimal::number_at;
-use slots::{MOST_OPS, Slot, free_slot};
+use slots::{MOST_OPS, Slot};
 
-// What reading the first line came to; `next` is past it.
+// The first line, and the place behind it.
 #[derive(Clone, Copy)]
 struct Head {
-    ok: bool,
     id: u32,
     class: u8,
     next: usize,
 }
 
-// The id and class of the first line; not ok where they break a rule.
-fn head_at(text: &[u8]) -> Head
-    ensures head_at { HeadAt text.now result.ok result.id result.class (drop result.next text.now) }
-    ensures next_in_bounds { result.next ≤ length text.now }
+// The id and class of the first line, where it keeps its rules.
+fn head_at(text: &[u8]) -> Option<Head>
+    ensures head_at { MatchOption result (NoHead text.now) (λ h. HeadAt text.now h.id h.class (drop h.next text.now)) }
+    ensures next_in_bounds { IfSome result (λ h. h.next ≤ length text.now) }
 {
-    let none = Head {
-        ok: false,
-        id: 0,
-        class: 0,
-        next: 0,
-    };
-    let id = number_at(text, 0, BLANK, u32::MAX as u64);
-    if !id.ok {
-        return none;
-    }
+    let id = number_at(text, 0, BLANK, u32::MAX as u64)?;
     if id.value == 0 {
-        return none;
+        return None;
     }
-    let class = number_at(text, id.next, NEWLINE, CLASSES as u64 - 1);
-    if !class.ok {
-        return none;
-    }
-    Head {
-        ok: true,
+    let class = number_at(text, id.next, NEWLINE, CLASSES as u64 - 1)?;
+    Some(Head {
         id: id.value as u32,
         class: class.value as u8,
         next: class.next,
-    }
+    })
 }
 
-// What reading a text came to: the slot of its request, or its first bad line.
-#[derive(Clone, Copy)]
-pub struct Parsed {
-    pub ok: bool,
+// The first line of a text that no valid text has there, from 1.
+#[derive(Clone, Copy, PartialEq, Eq)]
+pub struct BadLine {
     pub line: usize,
-    pub slot: Slot,
 }
 
-// A text is bad at a line.
-fn bad_at(line: usize) -> Parsed
-    ensures { (result.ok ≡ false) × (result.line ≡ line) }
+// Reads a text, line after line: the slot of its request, or its first bad line.
+pub fn parse(text: &[u8]) -> Result<Slot, BadLine>
+    ensures { MatchResult result (λ v. Parses text.now v) (λ bad. FirstBad text.now bad.line) }
 {
-    let free = free_slot();
-    Parsed {
-        ok: false,
-        line: line,
-        slot: free,
-    }
-}
-
-// A text is read.
-fn good(slot: Slot) -> Parsed
-    ensures { (result.ok ≡ true) × (result.slot ≡ slot) }
-{
-    Parsed {
-        ok: true,
-        line: 0,
-        slot: slot,
-    }
-}
-
-// Reads a text, line after line.
-pub fn parse(text: &[u8]) -> Parsed
-    ensures { Parses text.now result.ok result.slot result.line }
-{
-    let head = head_at(text);
-    if !head.ok {
-        return bad_at(1);
-    }
-    let free = free_slot();
+    let Some(head) = head_at(text) else {
+        return Err(BadLine { line: 1 });
+    };
+    let free = Slot::default();
     let mut ops = free.ops;
     let mut at = head.next;
     let mut k = 0;
+    // kept: a line is as long as what it says, so the place goes on by what was read; k counts the operations that the lines gave
     while at < text.len() {
         if k == MOST_OPS {
-            return bad_at(k + 2);
+            return Err(BadLine { line: k + 2 });
         }
-        let line = op_at(text, at);
-        if !line.ok {
-            return bad_at(k + 2);
-        }
-        let op = line.op;
-        ops[k] = op;
+        let Some(line) = op_at(text, at) else {
+            return Err(BadLine { line: k + 2 });
+        };
+        ops[k] = line.op;
         at = line.next;
         k += 1;
     }
     if k == 0 {
-        return bad_at(2);
+        return Err(BadLine { line: 2 });
     }
-    let slot = Slot {
+    Ok(Slot {
         id: head.id,
         class: head.class,
         count: k as u8,
         ops: ops,
-        number: 0,
-        done: 0,
-        mark: 0,
-        backs: 0,
-    };
-    good(slot)
+        ..free
+    })
 }

@@ -5,7 +5,7 @@
 
 ghost use Rattle.std.specs.Prelude.{◌≡◌, ◌+◌, ◌-◌, ◌<◌, ◌≤◌, not, ◌&&◌, length, take, drop, nat_lt, slice_index};
 ghost use Rattle.io.specs.Counts.{IsPrefixLen};
-ghost use Rattle.text.specs.Calls.{answer_of};
+ghost use Rattle.text.specs.Calls.{answer_up_to};
 ghost use Rattle.typed.specs.Bookings.{parts, Ends};
 ghost use Rattle.typed.specs.Taking.{may_go_on, TakesBlock};
 
@@ -13,9 +13,9 @@ use input::Got;
 use refusal::report;
 use slots::decode::RECORD;
 use std::io::Read;
-use std::num::wrapping_add_u64;
-use text::{Outcome, read};
+use text::{LONGEST, NEWLINE, Refused, read};
 
+// kept: the system's numbers; no crate below the programs has to do with files.
 const STDOUT_FILENO: i32 = 1;
 
 const STDERR_FILENO: i32 = 2;
@@ -23,23 +23,12 @@ const STDERR_FILENO: i32 = 2;
 // The records of a block's bookings fit 65,536 bytes, and a block has room for more than a booking.
 const BLOCK: usize = 1024;
 
-// No booking is longer.
-const LONGEST: usize = 168;
-
-const NEWLINE: u8 = 10;
-
 // Whether a booking begins at i, behind another: a line begins there, with a digit.
 fn begins(input: &[u8], i: usize) -> bool
     requires { (0 < i) × (i < length input.now) }
     ensures { result ≡ parts (slice_index input.now (i - 1)) (slice_index input.now i) }
 {
-    if input[i - 1] != NEWLINE {
-        return false;
-    }
-    if input[i] < b'0' {
-        return false;
-    }
-    input[i] <= b'9'
+    input[i - 1] == NEWLINE && matches!(input[i], b'0'..=b'9')
 }
 
 // Where the booking at `at` ends.
@@ -47,14 +36,12 @@ fn booking_end(input: &[u8], at: usize) -> usize
     requires { at < length input.now }
     ensures { Ends input.now at result }
 {
-    let mut i = at + 1;
-    while i < input.len() {
+    for i in at + 1..input.len() {
         if begins(input, i) {
             return i;
         }
-        i += 1;
     }
-    i
+    input.len()
 }
 
 // Whether a booking from `at` to `end` may go on behind a block of n bytes: it ends with the block, which is not the last, and is not too long.
@@ -62,63 +49,59 @@ fn goes_on(at: usize, end: usize, n: usize, last: bool) -> bool
     requires { at ≤ end }
     ensures { result ≡ may_go_on at end n last }
 {
-    if last {
-        return false;
-    }
-    if end < n {
-        return false;
-    }
-    end - at <= LONGEST
+    !last && n <= end && end - at <= LONGEST
 }
 
-// What taking a block came to: the last outcome, where what is left begins, the bytes of the records, and the place of the first booking left.
+// What taking a block came to: where what is left begins, the bytes of the records, the place of the first booking left, and why it is refused, if
+// it is.
+// kept: what is written stands in io's large buffer, of a fixed length, so how many of its bytes are used stands beside it
 #[derive(Clone, Copy)]
 struct Block {
-    outcome: Outcome,
     at: usize,
     len: usize,
     place: u64,
+    refused: Option<Refused>,
 }
 
 // The records of a block's bookings, from a place on, up to the first that is refused. The last booking is left where it may go on.
 fn take_block(input: &[u8], last: bool, first: u64, records: &mut [u8]) -> Block
     requires input_len_bound { length input.now ≤ 1024 }
     requires records_len { length records.old ≡ 65536 }
-    ensures takes_block { TakesBlock input.now last first (take result.len records.new) result.at result.place (answer_of result.outcome) }
+    ensures takes_block { TakesBlock input.now last first (take result.len records.new) result.at result.place (answer_up_to result.len result.refused) }
     ensures at_in_bounds { (result.at ≤ length input.now) × (result.len ≤ 65536) }
 {
     let n = input.len();
     let mut len = 0;
     let mut place = first;
     let mut at = 0;
+    // kept: a booking is as long as what it says, so the place goes on by where it ends
     while at < n {
         let end = booking_end(input, at);
         if goes_on(at, end, n, last) {
             return Block {
-                outcome: Outcome::Length(len),
                 at: at,
                 len: len,
                 place: place,
+                refused: None,
             };
         }
-        let outcome = read(&input[at..end], &mut records[len..]);
-        let Outcome::Length(_) = outcome else {
+        if let Err(refused) = read(&input[at..end], &mut records[len..]) {
             return Block {
-                outcome: outcome,
                 at: at,
                 len: len,
                 place: place,
+                refused: Some(refused),
             };
-        };
+        }
         len += RECORD;
-        place = wrapping_add_u64(place, 1);
+        place = place.wrapping_add(1);
         at = end;
     }
     Block {
-        outcome: Outcome::Length(len),
         at: at,
         len: len,
         place: place,
+        refused: None,
     }
 }
 
@@ -128,12 +111,8 @@ fn keep(input: &mut [u8], from: usize) -> usize
     ensures value { result ≡ length input.old - from }
     ensures input_after { take result input.new ≡ drop from input.old }
 {
-    let mut i = 0;
-    while from + i < input.len() {
-        input[i] = input[from + i];
-        i += 1;
-    }
-    i
+    input.copy_within(from.., 0);
+    input.len() - from
 }
 
 // Reads behind the first `rest` bytes of a block, which stay, and answers how many bytes it has then.
@@ -145,7 +124,7 @@ fn fill<R: Read>(stdin: &mut R, input: &mut [u8], rest: usize) -> Got
     let got = input::fill(stdin, &mut input[rest..]);
     Got {
         len: rest + got.len,
-        failed: got.failed,
+        ..got
     }
 }
 
@@ -153,20 +132,17 @@ fn fill<R: Read>(stdin: &mut R, input: &mut [u8], rest: usize) -> Got
 fn ends_input(n: usize, failed: bool) -> bool
     ensures { result ≡ (not failed && nat_lt n 1024) }
 {
-    if failed {
-        return false;
-    }
-    n < BLOCK
+    !failed && n < BLOCK
 }
 
 // Block after block, until the input ends or cannot be read, a booking is refused, or the records cannot be written.
+// kept: the loops of drive, shown and typed differ in what is left of a block and in what is known of a run (`Ran`), which a closure would hide
 fn run<R: Read>(stdin: &mut R) {
     let mut input = [0u8; BLOCK];
     let mut records = io::large_buffer();
     let mut rest = 0;
     let mut place: u64 = 1;
-    let mut turns = u64::MAX;
-    while turns > 0 {
+    for _ in 0..u64::MAX {
         let got = fill(stdin, &mut input, rest);
         let n = got.len;
         let last = ends_input(n, got.failed);
@@ -176,11 +152,10 @@ fn run<R: Read>(stdin: &mut R) {
             return;
         }
         place = block.place;
-        let outcome = block.outcome;
-        let Outcome::Length(_) = outcome else {
-            report(place, outcome);
+        if block.refused.is_some() {
+            report(place, block.refused);
             return;
-        };
+        }
         if got.failed {
             io::write_all(STDERR_FILENO, b"typed: the input cannot be read\n");
             return;
@@ -189,7 +164,6 @@ fn run<R: Read>(stdin: &mut R) {
             return;
         }
         rest = keep(&mut input, block.at);
-        turns -= 1;
     }
 }
 

@@ -1,12 +1,8 @@
 -- The digits so far are those of the value so far; each way out says why no number stands there, or that one does. Assumes nothing.
-use Prim.Native.Nat.{ℕ, ◌+◌, ◌<◌}
-use native.Mathlib.Omega.{arith}
-use mathlib.Core.Path.{◌≡◌, ◌∙◌, ap}
-use mathlib.Core.List.{List, [], ◌∷◌, ◌++◌}
-use lib.ListN.{length, get_or, drop, drop_of_length-le}
-use borrow.Author.Rules.{rules}
+use Rattle.std.proofs.Common.{◌≡◌, ℕ, ◌+◌, ◌<◌, List, [], ◌∷◌, ◌++◌, length, get_or, drop, ◌∙◌, ap, arith}
+use lib.ListN.{drop_of_length-le}
 use Rattle.decimal.specs.Decimal.{decimal}
-use Rattle.decimal.proofs.Runs.{Digit, ended, stopped, zero_first, too_large, refuse, accept, longer, at_place, stayed, went_past}
+use Rattle.decimal.proofs.Runs.{ended, stopped, zero_first, too_large, longer, at_place, went_past}
 use Rattle.decimal.proofs.number_from.Goals as goal
 
 -- the byte behind the digits so far
@@ -14,86 +10,39 @@ behind : (text : List ℕ) (at i value : ℕ) → i < length text → drop at te
     → drop at text ≡ decimal value ++ (get_or text i 0 ∷ drop (i + 1) text)
 behind text at i value l e = e ∙ ap (λ (t : List ℕ). decimal value ++ t) (at_place text i l)
 
-pub loop-i-init : goal.loop-i-init
-loop-i-init c = (search rules, search rules, c.requires.from_in_bounds.1)
+-- and where it is a digit
+digit_behind : (text : List ℕ) (at i value d : ℕ) → i < length text → drop at text ≡ decimal value ++ drop i text → get_or text i 0 ≡ 48 + d
+    → drop at text ≡ decimal value ++ ((48 + d) ∷ drop (i + 1) text)
+digit_behind text at i value d l e f = rw f at (behind text at i value l e)
 
-pub returns-then-b-stop : goal.returns-then-b-stop
-returns-then-b-stop c =
-    let args = c.args in
-    let loop = c.loop-i in
-    let p = behind args.text.now args.at loop.i loop.value (search rules) loop.invariant.2 in
-    let q : get_or args.text.now loop.i 0 ≡ args.stop = c.if-b-stop.true in
-    record {
-      number_at = accept _ _ (λ d. omega arith) _ _ _ (search rules) (rw q at p);
-      next_in_bounds = search rules;
-      ends_at = went_past _ _ _ _ (search rules) (search rules) loop.invariant.2;
-    }
+pub returns-then-byte-stop-clause-ends_at : goal.returns-then-byte-stop-clause-ends_at
+returns-then-byte-stop-clause-ends_at c = went_past c.args.text.now _ _ _ (omega arith) (omega arith) c.loop-i.invariant.digits
 
-pub returns-then-b-lt-ZERO : goal.returns-then-b-lt-ZERO
-returns-then-b-lt-ZERO c =
-    let args = c.args in
-    let loop = c.loop-i in
-    let p = behind args.text.now args.at loop.i loop.value (search rules) loop.invariant.2 in
-    let s : Digit args.stop → ⊥ = λ d. omega arith in
-    record {
-      number_at = refuse _ _ s _ _ (stopped _ _ s _ _ _ _ (λ d. omega arith) c.if-b-stop.false p);
-      next_in_bounds = search rules;
-      ends_at = stayed _;
-    }
+pub returns-in_err-more-clause-number_at : goal.returns-in_err-more-clause-number_at
+returns-in_err-more-clause-number_at c =
+    let p = behind c.args.text.now c.args.at c.loop-i.i c.loop-i.value (omega arith) c.loop-i.invariant.digits in
+    rw c.from_residual.ensures (stopped _ _ (λ d. omega arith) _ _ _ _ c.in_err-more.ensures c.if-byte-stop.false p)
 
-pub returns-then-b-gt-NINE : goal.returns-then-b-gt-NINE
-returns-then-b-gt-NINE c =
-    let args = c.args in
-    let loop = c.loop-i in
-    let p = behind args.text.now args.at loop.i loop.value (search rules) loop.invariant.2 in
-    let s : Digit args.stop → ⊥ = λ d. omega arith in
-    record {
-      number_at = refuse _ _ s _ _ (stopped _ _ s _ _ _ _ (λ d. omega arith) c.if-b-stop.false p);
-      next_in_bounds = search rules;
-      ends_at = stayed _;
-    }
+pub returns-then-value-eq0-clause-number_at : goal.returns-then-value-eq0-clause-number_at
+returns-then-value-eq0-clause-number_at c =
+    let d = c.in_ok-more.ensures in
+    let z : c.loop-i.value ≡ 0 = c.if-value-eq0.true in
+    let p = digit_behind c.args.text.now c.args.at c.loop-i.i c.loop-i.value c.in_ok-more.field-0 (omega arith) c.loop-i.invariant.digits d.1 in
+    zero_first _ _ (λ e. omega arith) _ _ _ (omega arith, omega (arith, d.0)) (rw z at p)
 
-pub returns-then-value-eq0 : goal.returns-then-value-eq0
-returns-then-value-eq0 c =
-    let args = c.args in
-    let loop = c.loop-i in
-    let p = behind args.text.now args.at loop.i loop.value (search rules) loop.invariant.2 in
-    let s : Digit args.stop → ⊥ = λ d. omega arith in
-    let z : loop.value ≡ 0 = c.if-value-eq0.true in
-    record {
-      number_at = refuse _ _ s _ _ (zero_first _ _ s _ _ _ (omega arith, omega arith) (rw z at p));
-      next_in_bounds = search rules;
-      ends_at = stayed _;
-    }
-
-pub returns-then-most-more : goal.returns-then-most-more
-returns-then-most-more c =
-    let args = c.args in
-    let loop = c.loop-i in
-    let p = behind args.text.now args.at loop.i loop.value (search rules) loop.invariant.2 in
-    let s : Digit args.stop → ⊥ = λ d. omega arith in
-    record {
-      number_at = refuse _ _ s _ _ (too_large _ _ s _ _ _ _ (omega arith, omega arith) (omega arith) c.if-most-more.true p);
-      next_in_bounds = search rules;
-      ends_at = stayed _;
-    }
+pub returns-then-most-more-clause-number_at : goal.returns-then-most-more-clause-number_at
+returns-then-most-more-clause-number_at c =
+    let d = c.in_ok-more.ensures in
+    let p = digit_behind c.args.text.now c.args.at c.loop-i.i c.loop-i.value c.in_ok-more.field-0 (omega arith) c.loop-i.invariant.digits d.1 in
+    too_large _ _ (λ e. omega arith) _ _ _ _ d.0 (omega arith) c.if-most-more.true p
 
 pub loop-i-preserved : goal.loop-i-preserved
 loop-i-preserved c =
-    let args = c.args in
-    let loop = c.loop-i in
-    let p = behind args.text.now args.at loop.i loop.value (search rules) loop.invariant.2 in
-    let s : Digit args.stop → ⊥ = λ d. omega arith in
-    (search rules, search rules, longer _ args.most s _ _ _ _ (omega arith, omega arith) (omega arith) p)
+    let d = c.in_ok-more.ensures in
+    let p = digit_behind c.args.text.now c.args.at c.loop-i.i c.loop-i.value c.in_ok-more.field-0 (omega arith) c.loop-i.invariant.digits d.1 in
+    record { small = omega arith; digits = longer _ _ _ _ d.0 (omega arith) p }
 
-pub returns : goal.returns
-returns c =
-    let args = c.args in
-    let loop = c.loop-i in
-    let s : Digit args.stop → ⊥ = λ d. omega arith in
-    let e : drop loop.i args.text.now ≡ [] = drop_of_length-le args.text.now {i = loop.i} (omega arith) in
-    record {
-      number_at = refuse _ _ s _ _ (ended _ _ s _ _ (rw e at loop.invariant.2));
-      next_in_bounds = search rules;
-      ends_at = stayed _;
-    }
+pub returns-clause-number_at : goal.returns-clause-number_at
+returns-clause-number_at c =
+    let e : drop c.loop-i.i c.args.text.now ≡ [] = drop_of_length-le c.args.text.now {i = c.loop-i.i} (omega arith) in
+    ended _ _ (λ d. omega arith) _ _ (rw e at c.loop-i.invariant.digits)

@@ -1,40 +1,28 @@
 -- `happen` meets its contract: each way out is the call of its kind, or the refusal. Assumes nothing.
-use native.Mathlib.Omega.{arith}
-use Rattle.event.proofs.Events.{no_event, no_kind, by_kind, offers, confirms, made, not_made}
+use mathlib.Core.Path.{ap, ◌∙◌}
+use Rattle.event.specs.Kinds.{code_of}
+use Rattle.event.proofs.Events.{by_kind, offers, confirms, made}
 use Rattle.event.proofs.Events.{any_cells, offers_no_work, confirms_no_work, reads_no_work}
 use Rattle.event.proofs.happen.Goals as goal
 
-pub returns-then-bytes-ne-EVENT : goal.returns-then-bytes-ne-EVENT
-returns-then-bytes-ne-EVENT c = not_made _ _ (no_event _ c.if-bytes-ne-EVENT.true)
+pub returns-in-Ok-Offer : goal.returns-in-Ok-Offer
+returns-in-Ok-Offer c =
+    let kind = c.in-Ok-Offer in
+    made _ _ _ _ _ (offers _ kind.ensures.0 (kind.ensures.1 ∙ ap code_of kind.field-0-is)) (any_cells _ _ _ c.offer.result.answer _ (offers_no_work _) c.offer.ensures)
 
-pub overflow_cast-bytes : goal.overflow_cast-bytes
-overflow_cast-bytes c = omega (arith, c.shared_slice_known-1.given 1)
+pub returns-in-Ok-Confirm : goal.returns-in-Ok-Confirm
+returns-in-Ok-Confirm c =
+    let kind = c.in-Ok-Confirm in
+    made _ _ _ _ _ (confirms _ _ _ kind.ensures.0 (kind.ensures.1 ∙ ap code_of kind.field-0-is) c.word_at-id.ensures c.word_at-number.ensures)
+    (any_cells _ _ _ c.confirm.result.answer _ (confirms_no_work _ _) c.confirm.ensures)
 
-pub overflow_cast-class : goal.overflow_cast-class
-overflow_cast-class c = omega (arith, c.shared_slice_known-1.given 1)
+pub returns-in-Ok-Work : goal.returns-in-Ok-Work
+returns-in-Ok-Work c =
+    let kind = c.in-Ok-Work in
+    made _ _ _ _ _ (by_kind _ 3 kind.ensures.0 (kind.ensures.1 ∙ ap code_of kind.field-0-is)) c.work.ensures
 
-pub overflow_cast-cell : goal.overflow_cast-cell
-overflow_cast-cell c = omega (arith, c.shared_slice_known-1.given 2)
-
-pub returns-in-1 : goal.returns-in-1
-returns-in-1 c =
-    made _ _ _ _ _ (offers _ c.if-bytes-ne-EVENT.false c.in-1.is) (any_cells _ _ _ c.offer.result.answer _ (offers_no_work _) c.offer.ensures)
-
-pub returns-in-2 : goal.returns-in-2
-returns-in-2 c =
-    let id = c.word_at-id.ensures in
-    let number = c.word_at-number.ensures in
-    made _ _ _ _ _ (confirms _ _ _ c.if-bytes-ne-EVENT.false c.in-2.is id number) (any_cells _ _ _ c.confirm.result.answer _ (confirms_no_work _ _) c.confirm.ensures)
-
-pub returns-in-3 : goal.returns-in-3
-returns-in-3 c =
-    made _ _ _ _ _ (by_kind _ 3 c.if-bytes-ne-EVENT.false c.in-3.is) c.work.ensures
-
-pub returns-in-4 : goal.returns-in-4
-returns-in-4 c =
-    made _ _ _ _ _ (by_kind _ 4 c.if-bytes-ne-EVENT.false c.in-4.is) (any_cells _ _ _ c.read-answer.result _ (reads_no_work _ _) c.read-answer.ensures)
-
-pub returns-in_default : goal.returns-in_default
-returns-in_default c =
-    let others = c.in_default.in_default-own.rest in
-    not_made _ _ (no_kind _ c.if-bytes-ne-EVENT.false others.0.0.0.1 others.0.0.1 others.0.1 others.1)
+pub returns-in-Ok-Read : goal.returns-in-Ok-Read
+returns-in-Ok-Read c =
+    let kind = c.in-Ok-Read in
+    made _ _ _ _ _ (by_kind _ 4 kind.ensures.0 (kind.ensures.1 ∙ ap code_of kind.field-0-is))
+    (any_cells _ _ _ c.read-answer.result _ (reads_no_work _ _) c.read-answer.ensures)

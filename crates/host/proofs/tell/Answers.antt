@@ -5,7 +5,7 @@ use Rattle.host.proofs.Told.{known_answer}
 use Rattle.host.proofs.tell.Goals as goal
 
 pub returns-in-Refused : goal.returns-in-Refused
-returns-in-Refused c = known_answer _ [] _ _ _ c.in-Refused.is refl
+returns-in-Refused c = known_answer _ [] _ _ _ c.in-Refused.is c.numbers_of_refusal.ensures
 
 pub returns-in-Queued : goal.returns-in-Queued
 returns-in-Queued c = known_answer _ [] _ _ _ c.in-Queued.is refl

@@ -1,9 +1,6 @@
-use Prim.Native.Nat.{ℕ, ◌-◌, ◌<◌, ◌≤◌}
+use Prim.Native.Nat.{ℕ, ◌<◌}
 use Rattle.kept.proofs.Places.{PlaceFilled}
 use Rattle.kept.proofs.filled.Given as goal
 
 abbrev pub invariant-loop-p : goal.invariant-loop-p
-invariant-loop-p l = (l.p ≤ 256) × ((k : ℕ) → k < l.p → PlaceFilled l.confirmations l.kept k)
-
-abbrev pub decreases-loop-p : goal.decreases-loop-p
-decreases-loop-p l = 256 - l.p
+invariant-loop-p l = (k : ℕ) → k < l.p → PlaceFilled l.confirmations l.kept k

@@ -4,20 +4,16 @@ use native.Mathlib.Omega.{arith}
 use lib.Dec.{leb}
 use borrow.Author.Tests.{leb-true, leb-false}
 use Rattle.plain.proofs.Tests.{by_test}
-use Rattle.plain.proofs.Deciding.{decides_true, decides_false, decides_as, decides_le}
-use Rattle.kept.proofs.Places.{all_in_use, first_spare, used_from_one, spare_past}
+use Rattle.plain.proofs.Deciding.{decides_true, decides_as, decides_le}
+use Rattle.kept.proofs.Places.{all_in_use, used_from_one, spare_past}
 use Rattle.kept.proofs.in_use.Goals as goal
 
-pub returns-then-confirmations-ge-KEPT_NUMBERS : goal.returns-then-confirmations-ge-KEPT_NUMBERS
-returns-then-confirmations-ge-KEPT_NUMBERS c = decides_true (all_in_use _ _ c.if-confirmations-ge-KEPT_NUMBERS.true c.requires)
-
-pub returns-then-p-eq0 : goal.returns-then-p-eq0
-returns-then-p-eq0 c =
-    decides_false (λ u. first_spare c.args.confirmations (omega (arith, c.if-confirmations-ge-KEPT_NUMBERS.false)) (rw c.if-p-eq0.true at u))
+pub returns-then-confirmations-ge-KEPT : goal.returns-then-confirmations-ge-KEPT
+returns-then-confirmations-ge-KEPT c = decides_true (all_in_use _ _ c.if-confirmations-ge-KEPT.true c.requires)
 
 pub returns : goal.returns
 returns c =
-    let few : c.args.confirmations < 256 = omega (arith, c.if-confirmations-ge-KEPT_NUMBERS.false) in
+    let few : c.args.confirmations < 256 = omega (arith, c.if-confirmations-ge-KEPT.false) in
     let some : 0 < c.args.p = omega (arith, c.if-p-eq0.false) in
     decides_as (λ l. used_from_one _ _ some l few)
     (λ u. by_test (leb c.args.p c.args.confirmations) (λ y. leb-true _ _ y)

@@ -1,21 +1,12 @@
--- `queries::lowest_free` meets its contract: none before the index is free. Assumes nothing.
-use native.Mathlib.Omega.{arith}
-use borrow.Author.Tests.{eq-eqb, ne_eqb}
-use Rattle.queries.proofs.Table.{found, none_found, one_more}
+-- `queries::lowest_free` meets its contract: the first that is free is the lowest. Assumes nothing.
+use Rattle.std.proofs.Common.{◌≡◌, true, false, rules}
+use Rattle.std.proofs.lemmas.Iterator.{IsFirst-from_position, YieldsList-from_slice}
+use borrow.Author.Tests.{tests}
+use Rattle.queries.proofs.Table.{is_free, first_is}
 use Rattle.queries.proofs.lowest_free.Goals as goal
 
-pub loop-p-init : goal.loop-p-init
-loop-p-init c = (omega arith, λ d l. absurd (omega arith))
-
-pub returns-then-table-p-eq0 : goal.returns-then-table-p-eq0
-returns-then-table-p-eq0 c =
-    let l = c.loop-p in
-    found c.args.table l.p c.loop-p-test.true l.invariant.1 (eq-eqb _ 0 c.if-table-p-eq0.true)
-
-pub loop-p-preserved : goal.loop-p-preserved
-loop-p-preserved c =
-    let l = c.loop-p in
-    (omega (arith, c.loop-p-test.true), one_more c.args.table l.p l.invariant.1 (ne_eqb _ 0 c.if-table-p-eq0.false))
-
 pub returns : goal.returns
-returns c = let l = c.loop-p in none_found c.args.table l.p (omega (arith, c.loop-p-test.false, l.invariant.0)) l.invariant.1
+returns c =
+    let t = c.args.table.now in
+    let f = first_is t c.position.result c.told-table (IsFirst-from_position _ _ c.position.result (λ q. is_free q ≡ true) (λ q. is_free q ≡ false) c.position.ensures.ran (YieldsList-from_slice t cc) (λ x q k. search (rules, tests)) (λ x q k. search (rules, tests))) in
+    record { some = f.some; none = f.none }

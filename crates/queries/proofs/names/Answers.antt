@@ -1,7 +1,7 @@
--- `queries::names` meets its contract: the lowest digit of the mask shifted down by c. Assumes nothing.
-use mathlib.Core.Path.{sym}
-use Rattle.queries.proofs.Masks.{named_digit}
+-- `queries::names` meets its contract: the digit of the mask, as a longer word. Assumes nothing.
+use mathlib.Core.Path.{sym, ◌∙◌}
+use Rattle.queries.proofs.Masks.{named_is}
 use Rattle.queries.proofs.names.Goals as goal
 
 pub returns : goal.returns
-returns c = sym (named_digit c.args.mask c.args.c c.requires)
+returns c = c.bit.ensures ∙ rw c.from.ensures (sym (named_is c.args.mask c.args.c c.requires))

@@ -1,9 +1,10 @@
--- `queries::without_class` meets its contract: the `and` with the complement of the digit c clears it. Assumes nothing.
-use Rattle.usedmap.proofs.Bits.{bits_and, one_shifted}
+-- `queries::without_class` meets its contract: the digit c of the mask is cleared, and it stays one of 16 digits. Assumes nothing.
+use Rattle.std.proofs.Common.{◌<◌, arith, rules}
 use Rattle.queries.proofs.Masks.{shrunk}
 use Rattle.queries.proofs.without_class.Goals as goal
 
+pub overflow_cast-result : goal.overflow_cast-result
+overflow_cast-result c = let f : c.with_bit.result < 65536 = c.with_bit.ensures.digits 16 c.requires (omega (arith, c.from.ensures, c.ranges.mask.fits)) in search rules
+
 pub returns : goal.returns
-returns c =
-    rw (one_shifted 16 c.args.c c.requires) (shrunk c.args.mask c.args.c _ c.requires (bits_and 16 c.args.mask c.args.c
-    c.ranges.mask.fits c.requires))
+returns c = shrunk c.args.mask c.args.c _ c.requires (rw c.from.ensures at c.with_bit.ensures.flags)

@@ -1,49 +1,43 @@
 -- `show_block` meets its contract: by the walk over the input, piece by piece; each adds at most 168 bytes to the text, and 384 of them fit.
 -- Assumes nothing.
-use Rattle.std.proofs.Common.{ap, length-take-le, rules}
-use Rattle.refusal.proofs.Outcomes.{no_length}
-use Rattle.text.specs.Calls.{answer_of}
-use Rattle.shown.proofs.Showing.{walked, refused_there, short_there, all_shown}
+use Rattle.std.proofs.Common.{length, ap, ◌∙◌, length-append, length-take-le, arith, rules}
+use Rattle.std.specs.Slice.Iter.{chunks_rest}
+use Rattle.shown.specs.Showing.{records_of}
+use Rattle.shown.proofs.Showing.{walked, refused_there, whole_record, comes_next, all_shown}
 use Rattle.shown.proofs.show_block.Goals as goal
 
-pub returns-in_default : goal.returns-in_default
-returns-in_default c =
-    let loop = c.loop-at in
-    let args = c.args in
-    let show-record = c.show_record-shown in
-    let at = loop.at in record {
-      shows = refused_there args.input.now args.first at _ _ loop.place (answer_of show-record.result.outcome) (search rules) show-record.ensures.shows_one
-          (no_length show-record.result.outcome c.in_default.not-Length) loop.invariant.3 loop.invariant.4;
-      len_bound = search rules;
-    }
+pub returns-in-Err-clause-shows : goal.returns-in-Err-clause-shows
+returns-in-Err-clause-shows c =
+    let loop = c.loop-record in
+    let cut = c.in-Some.ensures.steps.1 in
+    let next = comes_next _ _ _ _ loop.invariant.size cut.0 cut.1 cut.2 in
+    refused_there (records_of c.args.input.now) c.args.first _ _ loop.place _ _ c.in-Err.refused c.in-Err.ensures.shows_one loop.invariant.place
+    (rw next at loop.invariant.shown)
 
-pub loop-at-preserved : goal.loop-at-preserved
-loop-at-preserved c =
-    let args = c.args in
-    let loop = c.loop-at in
-    let show-record = c.show_record-shown in (
-      search rules,
-      search rules,
-      search rules,
-      search rules,
-      rw c.wrapping_add_u64-place.ensures.value (walked args.input.now args.first loop.at _ _ loop.place (answer_of show-record.result.outcome) (search rules) show-record.ensures.shows_one
-          _ (ap answer_of c.in-Length.is) loop.invariant.4),
-    )
-
-pub returns-then-at-n : goal.returns-then-at-n
-returns-then-at-n c =
-    let args = c.args in
-    let loop = c.loop-at in
+pub loop-record-preserved : goal.loop-record-preserved
+loop-record-preserved c =
+    let loop = c.loop-record in
+    let cut = c.in-Some.ensures.steps.1 in
+    let next = comes_next _ _ _ _ loop.invariant.size cut.0 cut.1 cut.2 in
+    let one = c.in-Ok.ensures.shows_one in
+    let whole = whole_record (records_of c.args.input.now) c.args.first _ _ loop.place _ (records_of (chunks_rest c.next.new.self)) _ one in
     record {
-      shows = short_there args.input.now args.first loop.at _ loop.place loop.invariant.3 (search rules) (search rules) loop.invariant.4;
-      len_bound = search rules;
+      size = c.in-Some.ensures.steps.0 ∙ loop.invariant.size;
+      room = omega (
+        arith,
+        whole,
+        ap length cut.0,
+        length-append c.in-Some.record.now (chunks_rest c.next.new.self),
+        c.in-Ok.ensures.len_bound,
+        loop.invariant.room,
+      );
+      long = search rules;
+      place = search rules;
+      shown = walked (records_of c.args.input.now) c.args.first _ _ loop.place _ _ _ one (rw next at loop.invariant.shown);
     }
 
-pub returns : goal.returns
-returns c =
-    let args = c.args in
-    let loop = c.loop-at in
-    record {
-      shows = all_shown args.input.now args.first loop.at _ loop.place loop.invariant.3 loop.len (length-take-le loop.len loop.text (search rules)) (search rules) loop.invariant.4;
-      len_bound = search rules;
-    }
+pub returns-clause-shows : goal.returns-clause-shows
+returns-clause-shows c =
+    let loop = c.loop-record in
+    all_shown (records_of c.args.input.now) c.args.first _ loop.place _ loop.len loop.invariant.place
+    (length-take-le loop.len loop.text (omega (arith, loop.invariant.room, loop.invariant.long))) c.in-None.ensures.steps.1.0 loop.invariant.shown

@@ -1,10 +1,14 @@
-use Rattle.std.proofs.Common.{◌≡◌, ◌-◌, ◌*◌, ◌^◌, ◌<◌, ◌≤◌, length, take}
-use Rattle.shown.proofs.Showing.{Stands}
+use Rattle.std.proofs.Common.{◌≡◌, ◌+◌, ◌*◌, ◌^◌, ◌<◌, ◌≤◌, length, take}
+use Rattle.std.specs.Slice.Iter.{chunks_rest, chunks_size}
+use Rattle.shown.specs.Showing.{records_of}
+use Rattle.shown.proofs.Showing.{SoFar}
 use Rattle.shown.proofs.show_block.Given as goal
 
-abbrev pub invariant-loop-at : goal.invariant-loop-at
-invariant-loop-at l =
-    (l.at ≤ l.n) × (l.len * 8 ≤ l.at * 21) × (length l.text ≡ length l.initial.text) × (l.place < 2 ^ 64) × Stands l.input l.first l.at (take l.len l.text) l.place
-
-abbrev pub decreases-loop-at : goal.decreases-loop-at
-decreases-loop-at l = l.n - l.at
+abbrev pub invariant-loop-record : goal.invariant-loop-record
+invariant-loop-record l = record {
+  size : chunks_size l.record-iterator ≡ 64;
+  room : 64 * l.len + 168 * length (chunks_rest l.record-iterator) ≤ 168 * 24576;
+  long : length l.text ≡ 65536;
+  place : l.place < 2 ^ 64;
+  shown : SoFar (records_of l.input) l.first (take l.len l.text) l.place (records_of (chunks_rest l.record-iterator));
+}

@@ -2,26 +2,23 @@
 use native.Mathlib.Omega.{arith}
 use Rattle.plain.proofs.Deciding.{decides_false, decides_as}
 use Rattle.slots.proofs.Shape.{seven, id_fits}
-use Rattle.slots.proofs.Records.{holds, held}
+use Rattle.slots.proofs.Records.{Held, holds, held}
 use Rattle.slots.proofs.holds.Goals as goal
+use Rattle.slots.proofs.holds.Goals.{then-v-eq0-via-then-v-eq0, then-v-eq0-via-else-v-eq0+then-v-ge-CLASSES, then-v-eq0-via-else-v-eq0+else-v-ge-CLASSES+then-count-eq0, then-v-eq0-via-else-v-eq0+else-v-ge-CLASSES+else-count-eq0+then-count-gt-MOST_OPS}
 
 pub returns-then-v-eq0 : goal.returns-then-v-eq0
 returns-then-v-eq0 c =
     let v = c.args.v in
-    decides_false (λ h. let f = held v (seven v _ c.well_formed.0) h in omega arith)
-
-pub returns-then-class-ge-CLASSES : goal.returns-then-class-ge-CLASSES
-returns-then-class-ge-CLASSES c =
-    let v = c.args.v in
-    decides_false (λ h. let f = held v (seven v _ c.well_formed.0) h in omega arith)
-
-pub returns-then-v-eq0-2 : goal.returns-then-v-eq0-2
-returns-then-v-eq0-2 c =
-    let v = c.args.v in
-    decides_false (λ h. let f = held v (seven v _ c.well_formed.0) h in omega arith)
-
-pub returns-then-n-gt-MOST_OPS : goal.returns-then-n-gt-MOST_OPS
-returns-then-n-gt-MOST_OPS c = decides_false (λ h. omega (arith, h.count))
+    let ops = seven v _ c.well_formed.0 in
+    decides_false (λ h.
+    let f : Held v = held v ops h in
+    let m = h.count in
+    elim c.then-v-eq0.branch [
+      | then-v-eq0-via-then-v-eq0 w ↦ let t = w.if-v-eq0.true in omega arith
+      | then-v-eq0-via-else-v-eq0+then-v-ge-CLASSES w ↦ let t = w.if-v-ge-CLASSES.true in omega arith
+      | then-v-eq0-via-else-v-eq0+else-v-ge-CLASSES+then-count-eq0 w ↦ let t = w.if-count-eq0.true in omega arith
+      | then-v-eq0-via-else-v-eq0+else-v-ge-CLASSES+else-count-eq0+then-count-gt-MOST_OPS w ↦ let t = w.if-count-gt-MOST_OPS.true in omega arith
+    ])
 
 pub returns : goal.returns
 returns c =

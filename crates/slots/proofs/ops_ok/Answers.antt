@@ -1,30 +1,54 @@
--- Each turn decides the rule of its place. Assumes nothing.
-use native.Mathlib.Omega.{arith}
-use borrow.Author.Rules.{rules}
-use borrow.Author.Count.{below_none, below_more}
+-- All of the operations, each with its number. Assumes nothing.
+use Rattle.std.proofs.Common.{rules, ◌≡◌, ℕ, ◌<◌, ◌≤◌, Bool, true, false, List, length, get_or, sym, subst, ◌∙◌, arith}
+use Rattle.std.specs.Bool.{MatchBool}
+use Rattle.std.specs.List.{AllWithin, HoldsAt, enumerate_from}
+use Rattle.std.proofs.lemmas.Iterator.{cases_from_all, YieldsList-from_slice}
+use Rattle.std.proofs.lemmas.Iterator.Consumers.{YieldsList-from_enumerate}
+use Rattle.std.proofs.lemmas.List.FromFn.{length-enumerate_from, get_or-enumerate_from}
+use borrow.Author.Tests.{tests}
+use Rattle.plain.specs.Sizes.{most_ops}
+use Rattle.plain.specs.Decides.{Decides}
 use Rattle.plain.proofs.Deciding.{decides_true, decides_false}
-use Rattle.slots.specs.Rules.{OpAt}
+use Rattle.cells.specs.declared.Op.{Op}
+use Rattle.cells.specs.Ops.{OpOk, no_op}
+use Rattle.slots.specs.declared.Slot.{Slot}
+use Rattle.slots.specs.Meaning.{op_at}
+use Rattle.slots.specs.Rules.{OpsOk}
+use Rattle.slots.proofs.Shape.{seven}
 use Rattle.slots.proofs.ops_ok.Goals as goal
-use Rattle.slots.proofs.ops_ok.Goals.{then-k-n+else-not-op_ok, else-k-n+else-not-op_zero}
 
-pub loop-k-init : goal.loop-k-init
-loop-k-init c = (search rules, below_none _)
+-- the rule of an operation with its number
+abbrev Rule : ℕ → ℕ × Op → Type 0
+Rule count p = (p.0 < count → OpOk p.1) × (count ≤ p.0 → p.1 ≡ no_op)
 
-pub returns-then-not-op_ok : goal.returns-then-not-op_ok
-returns-then-not-op_ok c = decides_false (λ h. c.op_ok.ensures.no c.if-not-op_ok.true ((h _ (omega arith)).within (omega arith)))
+module _ (v : Slot) (seven : length v.ops ≡ most_ops) where
+  placed : List (ℕ × Op)
+  placed = enumerate_from 0 v.ops
 
-pub returns-then-not-op_zero : goal.returns-then-not-op_zero
-returns-then-not-op_zero c = decides_false (λ h. c.op_zero.ensures.no c.if-not-op_zero.true ((h _ (omega arith)).past (omega arith)))
+  long : length placed ≡ most_ops
+  unfolding placed
+  long = length-enumerate_from 0 v.ops ∙ seven
 
-pub loop-k-preserved : goal.loop-k-preserved
-loop-k-preserved c =
-    let loop = c.loop-k in (
-      search rules,
-      below_more (OpAt c.args.v) loop.k loop.invariant.1 (elim c.if-k-n.branch [
-        | then-k-n+else-not-op_ok w ↦ record { within = λ s. w.op_ok.ensures.yes w.if-not-op_ok.false; past = λ s. absurd (omega (arith, w.if-k-n.true)) }
-        | else-k-n+else-not-op_zero w ↦ record { within = λ s. absurd (omega (arith, w.if-k-n.false)); past = λ s. w.op_zero.ensures.yes w.if-not-op_zero.false }
-      ]),
-    )
+  at : (k : ℕ) → k < most_ops → get_or placed k (0, no_op) ≡ (k, op_at v k)
+  unfolding placed
+  at k l = get_or-enumerate_from 0 v.ops k (0, no_op) (omega arith) ∙ search rules
+
+  decided : (r : Bool) → MatchBool r (AllWithin (Rule v.count) placed 0 (length placed)) ((k : ℕ) × (k < length placed) × HoldsAt (λ p. Rule v.count p → ⊥) placed k)
+      → Decides r (OpsOk v)
+  decided true h =
+      decides_true (λ k l.
+      let r = subst (Rule v.count) (at k l) (h k (0, no_op) (omega arith) (omega (arith, long))) in
+      record { within = r.0; past = r.1 })
+  decided false (k, l, h) =
+      decides_false (λ ok.
+      let s : k < most_ops = omega (arith, long) in
+      let o = ok k s in
+      h (0, no_op) (subst (Rule v.count) (sym (at k s)) (o.within, o.past)))
 
 pub returns : goal.returns
-returns c = decides_true (λ k l. c.loop-k.invariant.1 k (omega arith))
+unfolding placed
+returns c =
+    let v = c.args.v in
+    decided v (seven v _ c.well_formed.0) _
+    (cases_from_all _ _ _ (Rule v.count) (λ p. Rule v.count p → ⊥) c.all.ensures.ran
+    (YieldsList-from_enumerate (YieldsList-from_slice v.ops cc) (search rules)) (λ x q k. search (rules, tests)) (λ x q k. search (rules, tests)))

@@ -1,59 +1,38 @@
 -- `take_block` meets its contract: by the walk over the block, booking by booking; each has a byte or more and adds 64 to the records, so those of
 -- 1,024 bytes fit. Assumes nothing.
-use Rattle.std.proofs.Common.{sym, ap, ◌∙◌, length-take-le, rules}
-use Rattle.text.specs.Calls.{answer_of}
+use Rattle.std.proofs.Common.{refl, sym, ◌∙◌, length-take-le, rules}
+use Rattle.text.specs.Calls.{wrote, refusal_of}
 use Rattle.refusal.proofs.Outcomes.{no_length}
-use Rattle.typed.proofs.Taking.{nothing_yet, left_over, all_taken, walked, refused_there}
+use Rattle.typed.proofs.Taking.{left_over, all_taken, walked, refused_there}
 use Rattle.typed.proofs.take_block.Goals as goal
 
-pub loop-at-init : goal.loop-at-init
-loop-at-init c =
-    let args = c.args in
-    (search rules, search rules, search rules, search rules, nothing_yet args.input.now args.last args.first (search rules))
-
-pub returns-then-goes_on : goal.returns-then-goes_on
-returns-then-goes_on c =
+pub returns-then-goes_on-clause-takes_block : goal.returns-then-goes_on-clause-takes_block
+returns-then-goes_on-clause-takes_block c =
     let args = c.args in
     let loop = c.loop-at in
-    let booking-end = c.booking_end-end in
-    let t = args.input.now in record {
-      takes_block = left_over t args.last args.first _ loop.at loop.place loop.invariant.4 booking-end.result booking-end.ensures loop.len (length-take-le loop.len loop.records (search rules))
-          (sym c.goes_on.ensures ∙ c.if-goes_on.true);
-      at_in_bounds = search rules;
-    }
+    left_over args.input.now args.last args.first _ loop.at loop.place loop.invariant.4 c.booking_end-end.result c.booking_end-end.ensures loop.len
+    (length-take-le loop.len loop.records (search rules)) (sym c.goes_on.ensures ∙ c.if-goes_on.true)
 
-pub returns-in_default : goal.returns-in_default
-returns-in_default c =
+pub returns-in-Err-clause-takes_block : goal.returns-in-Err-clause-takes_block
+returns-in-Err-clause-takes_block c =
     let args = c.args in
     let loop = c.loop-at in
-    let booking-end = c.booking_end-end in
-    let read = c.read-outcome in
-    let t = args.input.now in record {
-      takes_block = refused_there t args.last args.first loop.records loop.len loop.at loop.place loop.invariant.4 booking-end.result booking-end.ensures
-          (sym c.goes_on.ensures ∙ c.if-goes_on.false) (search rules) (answer_of read.result) _ _ read.ensures (no_length read.result c.in_default.not-Length);
-      at_in_bounds = search rules;
-    }
+    refused_there args.input.now args.last args.first loop.records loop.len loop.at loop.place loop.invariant.4 c.booking_end-end.result c.booking_end-end.ensures
+    (sym c.goes_on.ensures ∙ c.if-goes_on.false) (search rules) (refusal_of c.in-Err.refused) _ _ c.in-Err.ensures (no_length c.in-Err.refused)
 
 pub loop-at-preserved : goal.loop-at-preserved
 loop-at-preserved c =
     let args = c.args in
-    let loop = c.loop-at in
-    let booking-end = c.booking_end-end in
-    let read = c.read-outcome in
-    let t = args.input.now in (
+    let loop = c.loop-at in (
       search rules,
       search rules,
       search rules,
       search rules,
-      walked t args.last args.first loop.records loop.len loop.at loop.place loop.invariant.4 booking-end.result booking-end.ensures
-          (sym c.goes_on.ensures ∙ c.if-goes_on.false) (search rules) (answer_of read.result) _ _ read.ensures _ _ (ap answer_of c.in-Length.is) c.wrapping_add_u64-place.ensures.value,
+      walked args.input.now args.last args.first loop.records loop.len loop.at loop.place loop.invariant.4 c.booking_end-end.result c.booking_end-end.ensures
+          (sym c.goes_on.ensures ∙ c.if-goes_on.false) (search rules) (wrote c.in_default.field-0) _ _ c.in_default.ensures _ _ refl refl,
     )
 
-pub returns : goal.returns
-returns c =
-    let args = c.args in
+pub returns-clause-takes_block : goal.returns-clause-takes_block
+returns-clause-takes_block c =
     let loop = c.loop-at in
-    record {
-      takes_block = all_taken args.input.now args.last args.first _ loop.at loop.place loop.invariant.4 loop.len (length-take-le loop.len loop.records (search rules)) (search rules);
-      at_in_bounds = search rules;
-    }
+    all_taken c.args.input.now c.args.last c.args.first _ loop.at loop.place loop.invariant.4 loop.len (length-take-le loop.len loop.records (search rules)) (search rules)

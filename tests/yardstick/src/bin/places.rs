@@ -64,19 +64,18 @@ fn stands(site: &Site, id: u64) -> (&[u8], usize) {
     (queue, queue.iter().position(|&place| usize::from(place) == slot).expect("it stands there"))
 }
 
-/// The places read by a search of the first waiting one by halves.
+/// The places read by a search of the first waiting one by halves, as the library's `partition_point` makes it.
 fn halves(site: &Site, queue: &[u8]) -> usize {
-    let (mut from, mut to, mut reads) = (0, queue.len(), 0);
-    while from < to {
-        let place = (from + to) / 2;
+    let (mut base, mut size, mut reads) = (0, queue.len(), 0);
+    while size > 1 {
+        let half = size / 2;
         reads += 1;
-        if waits(site, queue[place]) {
-            to = place;
-        } else {
-            from = place + 1;
+        if !waits(site, queue[base + half]) {
+            base += half;
         }
+        size -= half;
     }
-    reads
+    reads + size
 }
 
 /// The queue places that a confirmation reads to work out W, before and after: its request has moved before the first waiting one.

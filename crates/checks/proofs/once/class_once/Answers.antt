@@ -1,45 +1,40 @@
 -- Each turn takes one place. Assumes nothing.
+use Prim.Native.Nat.{◌+◌, ◌*◌}
 use native.Mathlib.Omega.{arith}
-use mathlib.Core.Path.{◌≡◌, refl}
-use borrow.Author.Rules.{rules}
-use borrow.Author.Tests.{not-false, not-true}
-use Rattle.plain.proofs.Tests.{no}
-use Rattle.store.specs.Checks.{flag_of, may_stand, nth}
-use Rattle.store.proofs.Taking.{none_taken, one_taken, too_often}
+use mathlib.Core.Path.{◌≡◌}
+use lib.ListN.{length}
+use Rattle.store.specs.Checks.{nth}
+use Rattle.store.proofs.Taking.{one_taken, too_often}
+use Rattle.checks.specs.Once.{may}
+use Rattle.checks.proofs.Parts.{queue_at, queue_long}
 use Rattle.checks.proofs.once.class_once.Goals as goal
 
-pub loop-p-init : goal.loop-p-init
-loop-p-init c = let pre· = c.requires in (search rules, refl, none_taken _ _ pre·.2 _ pre·.0)
+pub returns-then-not-take_one : goal.returns-then-not-take_one
+returns-then-not-take_one c =
+    let v· = c.args.queues.now in
+    let i· = c.loop-b.b-index in
+    let m· = may (nth c.args.classes.now) in
+    let n· : length c.queue-b-items.result.now ≡ nth v·.lens.now c.args.c = rw c.queue-b-items.ensures (queue_long v· c.args.c c.requires) in
+    let e· : nth c.queue-b-items.result.now i· ≡ nth v·.places.now (136 * c.args.c + i·) = rw c.queue-b-items.ensures (queue_at v· c.args.c c.requires i· (omega arith)) in
+    let z· : m· c.loop-b.u c.args.c (nth v·.places.now (136 * c.args.c + i·)) ≡ 0 = rw e· at (rw c.if-not-take_one.true at c.take_one.ensures) in
+    let s· = v·.short c.args.c c.requires in
+    (too_often (m· c.args.u.now) v·.places.now v·.whole c.args.c c.requires (m· c.loop-b.u) i· (omega arith) c.loop-b.invariant
+    (nth v·.lens.now c.args.c) (omega arith) z·)
 
-pub returns-then-not-u : goal.returns-then-not-u
-returns-then-not-u c =
-    let the-args = c.args in
-    let pre· = c.requires in
-    let loop· = c.loop-p in
-    record {
-      all_taken = λ t. no _ t (not-true _ c.if-not-u.true);
-      one_barred = λ f. too_often (may_stand (flag_of the-args.all.lo the-args.all.hi)
-          (nth the-args.classes.now) the-args.all.table) the-args.queue.now pre·.2 the-args.c pre·.0 (may_stand (flag_of loop·.u.lo
-          loop·.u.hi) (nth the-args.classes.now) loop·.u.table) loop·.p (omega arith) loop·.invariant.2 the-args.len c.loop-p-test.true
-          (c.take_one-u.ensures.barred f);
-    }
-
-pub loop-p-preserved : goal.loop-p-preserved
-loop-p-preserved c =
-    let if1· = c.if-not-u in
-    let the-args = c.args in
-    let pre· = c.requires in
-    let loop· = c.loop-p in (
-      search rules,
-      not-false _ if1·.false,
-      one_taken (may_stand (flag_of the-args.all.lo the-args.all.hi) (nth the-args.classes.now)
-          the-args.all.table) the-args.queue.now pre·.2 the-args.c pre·.0 (may_stand (flag_of loop·.u.lo loop·.u.hi) (nth
-          the-args.classes.now) loop·.u.table) loop·.p (omega arith) loop·.invariant.2 _ (c.take_one-u.ensures.taken (not-false _
-          if1·.false)),
-    )
+pub loop-b-preserved : goal.loop-b-preserved
+loop-b-preserved c =
+    let v· = c.args.queues.now in
+    let i· = c.loop-b.b-index in
+    let m· = may (nth c.args.classes.now) in
+    let n· : length c.queue-b-items.result.now ≡ nth v·.lens.now c.args.c = rw c.queue-b-items.ensures (queue_long v· c.args.c c.requires) in
+    let e· : nth c.queue-b-items.result.now i· ≡ nth v·.places.now (136 * c.args.c + i·) = rw c.queue-b-items.ensures (queue_at v· c.args.c c.requires i· (omega arith)) in
+    let s· = v·.short c.args.c c.requires in
+    let t· = rw c.if-not-take_one.false at c.take_one.ensures in
+    one_taken (m· c.args.u.now) v·.places.now v·.whole c.args.c c.requires (m· c.loop-b.u) i· (omega arith) c.loop-b.invariant _ (rw e· at t·)
 
 pub returns : goal.returns
 returns c =
-    let loop· = c.loop-p in
-    let e : loop·.p ≡ c.args.len = omega arith in
-    record { all_taken = λ t. rw e at loop·.invariant.2; one_barred = λ f. no _ loop·.invariant.1 f }
+    let v· = c.args.queues.now in
+    let n· : length c.queue-b-items.result.now ≡ nth v·.lens.now c.args.c = rw c.queue-b-items.ensures (queue_long v· c.args.c c.requires) in
+    let e· : c.loop-b.b-index ≡ nth v·.lens.now c.args.c = omega arith in
+    rw e· at c.loop-b.invariant

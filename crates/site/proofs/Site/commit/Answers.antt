@@ -4,6 +4,7 @@ use mathlib.Core.Path.{refl, ◌∙◌}
 use native.Mathlib.Omega.{arith}
 use lib.ListN.{get_or, drop}
 use Rattle.site.specs.Held.{store}
+use Rattle.slots.proofs.Free.{is_free}
 use Rattle.site.proofs.Shape.{shaped}
 use Rattle.store.specs.Meaning.{places}
 use Rattle.store.proofs.Commit.{head_is, commit_laid, commit_means, copied, uncopied}
@@ -23,8 +24,8 @@ bounds-self-i c =
     let pre· = c.requires in
     pre·.request
 
-pub with_free-map-requires : goal.with_free-map-requires
-with_free-map-requires c =
+pub with_free-self-requires : goal.with_free-self-requires
+with_free-self-requires c =
     let the-args = c.args in
     let pre· = c.requires in
     pre·.request
@@ -43,9 +44,8 @@ pub returns : goal.returns
 returns c =
     let the-args = c.args in
     let pre· = c.requires in
-    let free-slot· = c.free_slot in
     let take-head· = c.take_head in
-    let with-free· = c.with_free-map in
+    let with-free· = c.with_free-self in
     let copy-class· = c.copy_class in
     let s = (store the-args.self) in
     let w = (shaped the-args.self _ c.well_formed.0) in
@@ -57,12 +57,12 @@ returns c =
     let head = head_is s w pre·.laid k pre·.class pre·.some in
     record {
       laid =
-          commit_laid s _ w pre·.laid k i ps pre·.class head (rw free-slot·.ensures) refl take-head·.ensures.own
+          commit_laid s _ w pre·.laid k i ps pre·.class head (rw (is_free _ c.default.ensures)) refl take-head·.ensures.own
           take-head·.ensures.others with-free·.ensures pre·.request refl refl refl;
       slots = length-set s.slots i _;
       cells = copy-class·.auto.to ∙ pre·.cells.0;
       site =
-          λ e. commit_means s _ w pre·.laid k i ps pre·.class head (rw free-slot·.ensures) refl take-head·.ensures.own
+          λ e. commit_means s _ w pre·.laid k i ps pre·.class head (rw (is_free _ c.default.ensures)) refl take-head·.ensures.own
           take-head·.ensures.others with-free·.ensures pre·.request refl refl refl
           base wrk copy-class·.new.to
           (copied base wrk copy-class·.new.to k pre·.class pre·.cells.0 pre·.cells.1 copy-class·.ensures)

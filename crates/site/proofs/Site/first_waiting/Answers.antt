@@ -1,16 +1,10 @@
 -- `Site::first_waiting` meets its contract: the walk over its places, with the slots' numbers. Assumes nothing.
 use Prim.Native.Nat.{ℕ, ◌*◌}
 use mathlib.Core.Path.{subst}
-use native.Mathlib.Omega.{arith}
 use Rattle.site.specs.Held.{store}
 use Rattle.store.specs.Meaning.{len_of}
 use Rattle.store.specs.Steps.{WaitsFrom}
 use Rattle.site.proofs.Site.first_waiting.Goals as goal
-
-pub waits_from-requires : goal.waits_from-requires
-waits_from-requires c =
-    let pre· = c.requires in
-    omega (arith, pre·.1, pre·.0.not_longer_than_136 c.args.c pre·.1)
 
 pub returns : goal.returns
 returns c =

@@ -1,25 +1,9 @@
 -- `Site::put_back` meets its contract: the head's slot is stored and its class's cells are copied. Assumes nothing.
 use mathlib.Core.Path.{ap, ◌∙◌}
-use native.Mathlib.Omega.{arith}
 use Rattle.site.specs.Held.{store}
 use Rattle.store.specs.Steps.{with_slot, head_slot}
 use Rattle.store.proofs.Commit.{copied, uncopied}
 use Rattle.site.proofs.Site.put_back.Goals as goal
-
-pub offset_bounds-self-i : goal.offset_bounds-self-i
-offset_bounds-self-i c = record { fits = omega (arith, c.requires.request) }
-
-pub bounds-self-i : goal.bounds-self-i
-bounds-self-i c = c.requires.request
-
-pub backed-requires : goal.backed-requires
-backed-requires c = c.requires.fits
-
-pub offset_bounds-self-i-2 : goal.offset_bounds-self-i-2
-offset_bounds-self-i-2 c = record { fits = omega (arith, c.requires.request) }
-
-pub bounds-self-i-2 : goal.bounds-self-i-2
-bounds-self-i-2 c = c.requires.request
 
 pub returns : goal.returns
 returns c =

@@ -1,104 +1,71 @@
--- `Site::seen` meets its contract: before the first half none waits, and the second begins with one that waits, or at the end; so the slot before it ends
--- the confirmed part. Assumes nothing.
-use Prim.Native.Nat.{ℕ, ◌+◌, ◌*◌, ◌-◌, ◌<◌}
-use native.Mathlib.Omega.{arith}
-use mathlib.Core.Logic.{inl, inr}
-use mathlib.Core.Path.{◌≡◌, refl, sym, ap, ◌∙◌}
-use lib.ListN.{get_or}
+-- `Site::seen` meets its contract: all before the partition point are passed, and at it one waits, or the queue ends; so the slot before it ends the
+-- confirmed part. Assumes nothing.
+use Rattle.std.proofs.Common.{ℕ, ◌+◌, ◌*◌, ◌-◌, ◌<◌, ◌≤◌, ◌≡◌, ◌||◌, Bool, true, false, List, length, leb, ltb, le-leb, lt-ltb, ltb-true, ltb-false, leb-true, leb-false, get_or, inl, inr, refl, sym, ◌∙◌, arith, rules, of_calls}
+use Rattle.std.specs.List.{between}
+use Rattle.std.specs.List.Sorted.{IsPartitionPoint, IsPartitionedBy}
+use Rattle.std.proofs.lemmas.List.{get_or_default}
+use Rattle.std.proofs.lemmas.List.Edits.{length-between, get_or-between}
+use Rattle.std.proofs.lemmas.List.Sorted.{IsPartitionPoint-from_clause}
+use Rattle.plain.proofs.Tests.{by_test, or_left, or_right}
+use Rattle.slots.specs.declared.Slot.{Slot}
 use Rattle.slots.specs.Meaning.{slot_at}
-use Rattle.site.specs.Held.{store}
-use Rattle.store.specs.Steps.{FirstWaiting}
+use Rattle.store.specs.Meaning.{len_of}
+use Rattle.store.specs.Steps.{FirstWaiting, Passed, WaitingLast}
+use Rattle.store.specs.Store.{Store}
 use Rattle.store.proofs.Ending.{none_before}
+use Rattle.site.specs.Held.{store}
+use Rattle.site.proofs.Shape.{shaped}
 use Rattle.site.proofs.Site.seen.Goals as goal
-use Rattle.site.proofs.Site.seen.Goals.{else-b-lt-SLOT_LIMIT, then-b-lt-SLOT_LIMIT+else-self-b-eq0}
 
-pub bounds-self-c : goal.bounds-self-c
-bounds-self-c c = c.requires.2
+-- what the search asks of an entry of the queue
+abbrev passes : List Slot → ℕ → Bool
+passes l b = leb 128 b || ltb 0 (slot_at l b).number
 
-pub loop-from-init : goal.loop-from-init
-loop-from-init c = (omega arith, omega arith, (λ k l. absurd (omega arith)), (λ l. absurd (omega arith)))
+module _ (s : Store) (k : ℕ) (within : 136 * k + len_of s k ≤ length s.queue) where
+  abbrev part : List ℕ
+  part = between (136 * k) (136 * k + len_of s k) s.queue
 
-pub overflow_add-p : goal.overflow_add-p
-overflow_add-p c =
-    let pre· = c.requires in
-    let loop· = c.loop-from in
-    record { fits = omega (arith, pre·.0.not_longer_than_136 _ pre·.2, loop·.invariant.0, loop·.invariant.1) }
+  long : length part ≡ len_of s k
+  long = length-between s.queue (136 * k) (136 * k + len_of s k) within ∙ omega arith
 
-pub overflow_mul-b : goal.overflow_mul-b
-overflow_mul-b c =
-    record { fits = omega (arith, c.requires.2) }
+  at : (j d : ℕ) → j < len_of s k → get_or part j d ≡ get_or s.queue (136 * k + j) 0
+  at j d u = get_or-between s.queue (136 * k) (136 * k + len_of s k) j d (omega (arith, u)) ∙ get_or_default s.queue (136 * k + j) d 0 (omega (arith, u, within))
 
-pub overflow_add-b : goal.overflow_add-b
-overflow_add-b c =
-    let pre· = c.requires in
-    record { fits = omega (arith, pre·.2, pre·.0.not_longer_than_136 _ pre·.2, c.loop-from.invariant.1) }
+  passed : (j d : ℕ) → j < len_of s k → passes s.slots (get_or part j d) ≡ true → Passed s k j
+  passed j d u h =
+      let b = get_or s.queue (136 * k + j) 0 in
+      let h· : passes s.slots b ≡ true = rw (at j d u) at h in
+      by_test (leb 128 b) (λ t. inl (leb-true 128 b t)) (λ f. inr (ltb-true 0 (slot_at s.slots b).number (rw f at h·)))
 
-pub bounds-self-c-in-loop-from : goal.bounds-self-c-in-loop-from
-bounds-self-c-in-loop-from c =
-    let pre· = c.requires in
-    omega (arith, pre·.2, pre·.0.not_longer_than_136 _ pre·.2, c.loop-from.invariant.1)
+  parted : WaitingLast s k → IsPartitionedBy (passes s.slots) part
+  parted last i j d l u h =
+      let v : j < len_of s k = omega (arith, long, u) in
+      rw (at i d (omega (arith, l, v))) (elim (none_before s k last j v (passed j d v h) i (omega (arith, l))) [
+        | inl n ↦ rw (le-leb 128 (get_or s.queue (136 * k + i) 0) n) refl
+        | inr n ↦ by_test (leb 128 (get_or s.queue (136 * k + i) 0)) (λ t. rw t refl) (λ f. rw (f, lt-ltb 0 (slot_at s.slots (get_or s.queue (136 * k + i) 0)).number n) refl)
+      ])
 
-pub loop-from-smaller-then-self-b-eq0 : goal.loop-from-smaller-then-self-b-eq0
-loop-from-smaller-then-self-b-eq0 c = omega (arith, c.loop-from-test.true)
-
-pub loop-from-preserved-then-self-b-eq0 : goal.loop-from-preserved-then-self-b-eq0
-loop-from-preserved-then-self-b-eq0 c =
-    let loop· = c.loop-from in
-    (omega arith, omega (arith, c.loop-from-test.true, loop·.invariant.1), loop·.invariant.2, (λ l. (c.if-b-lt-SLOT_LIMIT.true, c.if-self-b-eq0.true)))
-
-pub overflow_add-from : goal.overflow_add-from
-overflow_add-from c =
-    let pre· = c.requires in
-    record { fits = omega (arith, pre·.0.not_longer_than_136 _ pre·.2, c.loop-from-test.true, c.loop-from.invariant.1) }
-
-pub loop-from-smaller : goal.loop-from-smaller
-loop-from-smaller c = omega (arith, c.loop-from-test.true)
-
-pub loop-from-preserved : goal.loop-from-preserved
-loop-from-preserved c =
-    let loop-test· = c.loop-from-test in
-    let loop· = c.loop-from in (
-      omega (arith, loop-test·.true),
-      loop·.invariant.1,
-      none_before (store c.args.self) _ c.requires.3 _ (omega (arith, loop-test·.true, loop·.invariant.1))
-          (elim c.if-b-lt-SLOT_LIMIT.branch [ then-b-lt-SLOT_LIMIT+else-self-b-eq0 t ↦ inr (omega arith) | else-b-lt-SLOT_LIMIT t ↦ inl (omega arith) ]),
-      loop·.invariant.3,
-    )
-
-pub returns-then-from-eq0 : goal.returns-then-from-eq0
-returns-then-from-eq0 c = (refl, (λ z. absurd (omega arith)))
-
-pub overflow_mul-c : goal.overflow_mul-c
-overflow_mul-c c =
-    record { fits = omega (arith, c.requires.2) }
-
-pub overflow_add-c : goal.overflow_add-c
-overflow_add-c c =
-    let pre· = c.requires in
-    let loop· = c.loop-from in
-    record { fits = omega (arith, pre·.2, pre·.0.not_longer_than_136 _ pre·.2, loop·.invariant.0, loop·.invariant.1) }
-
-pub bounds-self-c-2 : goal.bounds-self-c-2
-bounds-self-c-2 c =
-    let pre· = c.requires in
-    let loop· = c.loop-from in
-    omega (arith, pre·.2, pre·.0.not_longer_than_136 _ pre·.2, loop·.invariant.0, loop·.invariant.1, c.if-from-eq0.false)
-
-pub returns-then-self-c : goal.returns-then-self-c
-returns-then-self-c c = (refl, (λ z. absurd (omega arith)))
-
-pub bounds-self-c-3 : goal.bounds-self-c-3
-bounds-self-c-3 c =
-    c.requires.2
+  first : (n : ℕ) → n ≤ length part
+      → IsPartitionPoint (λ y. passes s.slots y ≡ true) (λ y. passes s.slots y ≡ false) part n → FirstWaiting s k n
+  first n u point = record {
+    within = omega (arith, long, u);
+    before = λ j l. passed j 0 (omega (arith, long, u, l)) (point.0 j 0 (omega arith) l);
+    waits = λ l.
+        let h = rw (at n 0 l) at (point.1 n 0 (omega arith) (omega (arith, long, l))) in
+        let b = get_or s.queue (136 * k + n) 0 in
+        let f = or_left (leb 128 b) (ltb 0 (slot_at s.slots b).number) h in
+        (omega (arith, leb-false 128 b f), omega (arith, ltb-false 0 (slot_at s.slots b).number (or_right (leb 128 b) (ltb 0 (slot_at s.slots b).number) h)));
+  }
 
 pub returns : goal.returns
 returns c =
     let the-args = c.args in
-    let loop· = c.loop-from in
+    let s = store the-args.self in
     let k· = (slot_at the-args.self.slots the-args.i).class in
-    let e : loop·.to ≡ loop·.from = omega (arith, c.loop-from-test.false, loop·.invariant.0) in
-    let some· : 0 < loop·.from = omega (arith, c.if-from-eq0.false) in
-    let at· : 136 * k· + loop·.from - 1 ≡ 136 * k· + (loop·.from - 1) = omega arith in
-    let first· : FirstWaiting (store the-args.self) k· loop·.from =
-    record { within = omega (arith, loop·.invariant.1, e); before = loop·.invariant.2; waits = rw e at loop·.invariant.3 } in
-    (refl, (λ z. (refl, record { until = loop·.from; first = first·; some = some·; is = sym (ap (λ (j : ℕ). get_or the-args.self.queue j 0) at·) ∙ c.if-self-c.false })))
+    let pre· = c.requires in
+    let r· = c.partition_point-behind in
+    let within : 136 * k· + len_of s k· ≤ length s.queue = omega (arith, (shaped the-args.self _ c.well_formed.0).queue, pre·.2, pre·.0.not_longer_than_136 _ pre·.2) in
+    let point = IsPartitionPoint-from_clause (passes the-args.self.slots) _ _ r·.ensures.partitioned (parted s k· within pre·.3) (λ a r q k. search (rules, of_calls)) in
+    let some· : 0 < r·.result = omega (arith, c.if-behind-eq0.false) in
+    let n· : r·.result - 1 < len_of s k· = omega (arith, long s k· within, r·.ensures.bound, some·) in
+    (refl, (refl, record { until = r·.result; first = first s k· within r·.result r·.ensures.bound point; some = some·; is = sym (at s k· within (r·.result - 1) 0 n·) ∙ c.if-queue-behind.false }))

@@ -1,4 +1,3 @@
-use Prim.Native.Nat.{◌≤◌, ◌-◌}
 use mathlib.Core.Path.{◌≡◌}
 use lib.ListN.{length, take}
 use Rattle.plain.specs.Sizes.{cell_count}
@@ -7,7 +6,4 @@ use Rattle.slots.specs.Meaning.{request_of}
 use Rattle.slots.proofs.steps.run_done.Given as goal
 
 abbrev pub invariant-loop-k : goal.invariant-loop-k
-invariant-loop-k l = (l.k ≤ l.v.done) × (P.carry_all (take l.k (request_of l.v).ops) l.from ≡ P.carried l.work) × (length l.work ≡ cell_count)
-
-abbrev pub decreases-loop-k : goal.decreases-loop-k
-decreases-loop-k l = l.v.done - l.k
+invariant-loop-k l = (P.carry_all (take l.k (request_of l.v).ops) l.from ≡ P.carried l.ran.cells) × (length l.ran.cells ≡ cell_count) × (l.ran.mark ≡ 0)

@@ -1,14 +1,11 @@
-use Prim.Native.Nat.{◌+◌, ◌*◌, ◌-◌, ◌≤◌}
-use mathlib.Core.Path.{◌≡◌}
-use mathlib.Core.List.{◌++◌}
-use lib.ListN.{take, length}
+use Rattle.std.proofs.Common.{◌≡◌, ◌≤◌, ◌+◌, ◌*◌, ◌++◌, take, length}
 use Rattle.text.specs.Text.{head_line, joined}
 use Rattle.text.proofs.Forms.{meant_line}
 use Rattle.text.proofs.lines.put_text.Given as goal
 
-abbrev pub invariant-loop-k : goal.invariant-loop-k
-invariant-loop-k l =
-    (l.k ≤ l.n) × (l.at ≤ 14 + 22 * l.k) × (length l.to ≡ 168) × (take l.at l.to ≡ head_line l.slot.id l.slot.class ++ joined meant_line (take l.k l.slot.ops))
-
-abbrev pub decreases-loop-k : goal.decreases-loop-k
-decreases-loop-k l = l.n - l.k
+abbrev pub invariant-loop-op : goal.invariant-loop-op
+invariant-loop-op l = record {
+  at_most : l.at ≤ 14 + 22 * l.op-index;
+  long : length l.to ≡ 168;
+  stands : take l.at l.to ≡ head_line l.fn.slot.id l.fn.slot.class ++ joined meant_line (take l.op-index l.op-items);
+}

@@ -1,12 +1,7 @@
-use Prim.Native.Nat.{ℕ, ◌-◌, ◌<◌, ◌≤◌}
-use mathlib.Core.List.{[]}
-use lib.ListN.{get_or, drop}
+use Rattle.std.proofs.Common.{ℕ, ◌+◌, ◌<◌, [], get_or, drop}
 use Rattle.plain.specs.Record.{names}
 use Rattle.text.specs.Pieces.{Begins}
 use Rattle.text.proofs.opline.name_at.Given as goal
 
 abbrev pub invariant-loop-code : goal.invariant-loop-code
-invariant-loop-code l = (1 ≤ l.code) × (l.code ≤ 5) × ((d : ℕ) → d < l.code → 1 ≤ d → Begins (get_or names d []) (drop l.at l.text) → ⊥)
-
-abbrev pub decreases-loop-code : goal.decreases-loop-code
-decreases-loop-code l = 5 - l.code
+invariant-loop-code l = (j : ℕ) → j < l.code-index → Begins (get_or names (j + 1) []) (drop l.at l.text) → ⊥

@@ -1,4 +1,4 @@
-use Prim.Native.Nat.{◌-◌}
+use Rattle.std.proofs.Common.{◌-◌}
 use Rattle.plain.specs.Sizes.{most_ops}
 use Rattle.text.proofs.Parsing.{SoFar}
 use Rattle.text.proofs.parse.parse.Given as goal

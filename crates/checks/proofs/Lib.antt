@@ -1,0 +1,2 @@
+-- what holds of a part of the queue places
+pub mod Parts
