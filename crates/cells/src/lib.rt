@@ -135,6 +135,17 @@ fn give(cells: &mut [u32], k: usize, j: usize, amount: u32) -> bool
     true
 }
 
+// `to` becomes `from`.
+// kept: a loop, since copy_from_slice asks a host that links the archive for memmove, which nothing else there needs.
+pub fn copy_cells(to: &mut [u32], from: &[u32])
+    requires { length to.old ≡ length from.now }
+    ensures { to.new ≡ from.now }
+{
+    for i in 0..from.len() {
+        to[i] = from[i];
+    }
+}
+
 // The cells of class c of `to` become those of `from`.
 pub fn copy_class(to: &mut [u32], from: &[u32], c: usize)
     requires { (length to.old ≡ class_count * cell_count) × (length from.now ≡ class_count * cell_count) × (c < class_count) }
@@ -142,5 +153,18 @@ pub fn copy_class(to: &mut [u32], from: &[u32], c: usize)
 {
     let a = CELLS * c;
     let b = a + CELLS;
-    to[a..b].copy_from_slice(&from[a..b]);
+    copy_cells(&mut to[a..b], &from[a..b]);
+}
+
+// Whether two runs of cells are the same. All are compared, without a branch.
+// kept: by hand, since == leaves at the first cells that differ.
+pub fn same_cells(a: &[u32], b: &[u32]) -> bool
+    requires { length a.now ≡ length b.now }
+    ensures { Decides result (a.now ≡ b.now) }
+{
+    let mut same = true;
+    for i in 0..a.len() {
+        same = same & (a[i] == b[i]);
+    }
+    same
 }

@@ -1,5 +1,5 @@
 // The fields of the slots and queries, gathered into lists once, for the walks over them.
-ghost use Rattle.std.specs.Prelude.{◌≡◌, is_some, IfSome};
+ghost use Rattle.std.specs.Prelude.{◌≡◌, is_ok, MatchResult};
 ghost use Rattle.plain.specs.Decides.{Decides};
 ghost use Rattle.store.specs.Checks.{nth, due, Classed, SlotsIn, Owned, Staged, Lined};
 
@@ -15,6 +15,13 @@ pub struct Owners {
     ghost classed: { Classed (nth classes) },
 }
 
+// The same of slots that are not all in order: a class may be any number.
+#[derive(Clone, Copy)]
+pub struct Unfit {
+    pub ids: [u32; SLOTS],
+    pub classes: [u8; SLOTS],
+}
+
 // Of what queue places name the lines, done operations and marks, and the work calls that it takes where it is confirmed.
 #[derive(Clone, Copy)]
 pub struct Stages {
@@ -24,23 +31,29 @@ pub struct Stages {
     pub dues: [u8; CLASS_PLACES],
 }
 
-// "Each slot is free and all zero, or holds a valid record", and no count of times put back is above `top`: if so, their ids and classes.
-pub fn gather_owners(slots: [Slot; SLOTS], top: u64) -> Option<Owners>
-    ensures decides { Decides (is_some result) (SlotsIn slots top) }
-    ensures owned { IfSome result (λ o. Owned slots o.ids o.classes) }
+// Whether "each slot is free and all zero, or holds a valid record", and no count of times put back is above `top`; their ids and classes in either
+// case. All slots are looked at, without a branch.
+pub fn gather_owners(slots: [Slot; SLOTS], top: u64) -> Result<Owners, Unfit>
+    ensures decides { Decides (is_ok result) (SlotsIn slots top) }
+    ensures owned { MatchResult result (λ o. Owned slots o.ids o.classes) (λ o. Owned slots o.ids o.classes) }
 {
-    let mut owners = Owners {
+    let mut all = Unfit {
         ids: [0; SLOTS],
         classes: [0; SLOTS],
     };
+    let mut fit = true;
     for (i, v) in slots.iter().enumerate() {
-        if !slot_ok(*v) || top < v.backs {
-            return None;
-        }
-        owners.ids[i] = v.id;
-        owners.classes[i] = v.class;
+        fit = fit & (slot_ok(*v) & (v.backs <= top));
+        all.ids[i] = v.id;
+        all.classes[i] = v.class;
     }
-    Some(owners)
+    if !fit {
+        return Err(all);
+    }
+    Ok(Owners {
+        ids: all.ids,
+        classes: all.classes,
+    })
 }
 
 // The numbers of the slots.

@@ -2,7 +2,7 @@
 // classes' lengths.
 #![tactic(auto)]
 
-ghost use Rattle.std.specs.Prelude.{◌≡◌, length, is_some, IfSome};
+ghost use Rattle.std.specs.Prelude.{◌≡◌, length, is_ok, MatchResult};
 ghost use Rattle.plain.specs.Sizes.{slot_count};
 ghost use Rattle.plain.specs.Decides.{Decides};
 ghost use Rattle.store.specs.Store.{run_size};
@@ -13,8 +13,8 @@ mod gather; // gather.rt: the slots' fields, gathered once
 mod once; // once.rt: what stands in the queues
 mod queues; // queues.rt: the rules of the queue places
 
-use cells::{CELLS, CLASSES};
-pub use gather::{Owners, Stages, gather_numbers, gather_owners, gather_stages};
+use cells::{CELLS, CLASSES, same_cells};
+pub use gather::{Owners, Stages, Unfit, gather_numbers, gather_owners, gather_stages};
 use once::each_once;
 pub use places::{CLASS_PLACES, PLACES};
 use queries::Query;
@@ -138,7 +138,7 @@ fn agree(
     (commits as u64) + (n as u64) == top as u64
 }
 
-// Whether these rules are kept, and no queue is longer than 136: if so, what stands at the head of each class, 128 where its queue is empty.
+// Whether these rules are kept, and no queue is longer than 136; in either case what stands at the head of each class, 128 where its queue is empty.
 // kept: 128 for the head of an empty queue, since what stands at a place is a byte, and 128 no slot.
 // kept: the arrays by value, here and where slots are given, since to lend them from a site given by value costs a copy of the site, and misses tests/yardstick/stack.limits.
 // kept: Unnumbered is a fact of two values, and so in no type.
@@ -152,16 +152,19 @@ pub fn laid_out(
     map: UsedMap,
     top: u32,
     commits: u32,
-) -> Option<[u8; CLASSES]>
+) -> Result<[u8; CLASSES], [u8; CLASSES]>
     requires { Unnumbered (nth owners.now.ids) (nth stages.now.lines) }
-    ensures decides { Decides (is_some result) (LaidGiven owners.now stages.now queue lens sums table map top commits) }
-    ensures heads { IfSome result (Heads queue lens) }
+    ensures decides { Decides (is_ok result) (LaidGiven owners.now stages.now queue lens sums table map top commits) }
+    ensures heads { MatchResult result (Heads queue lens) (Heads queue lens) }
 {
-    let queues = Queues::of(&queue, &lens, &sums)?;
+    let heads = heads(&queue, &lens);
+    let Some(queues) = Queues::of(&queue, &lens, &sums) else {
+        return Err(heads);
+    };
     if !agree(owners, stages, &queues, table, map, top, commits) {
-        return None;
+        return Err(heads);
     }
-    Some(heads(&queues))
+    Ok(heads)
 }
 
 // "The working cells are the committed ones with the head's done operations carried out on them", or equal to them where no request is the head.
@@ -180,7 +183,7 @@ pub fn cells_ok(
         let base = &committed[a..a + CELLS];
         let work = &working[a..a + CELLS];
         if SLOT_LIMIT <= *head {
-            if work != base {
+            if !same_cells(work, base) {
                 return false;
             }
         } else {

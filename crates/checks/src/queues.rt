@@ -165,13 +165,13 @@ pub fn sums_right(stages: &Stages, queues: &Queues) -> bool
 }
 
 // What stands at the head of each class, 128 where its queue is empty.
-pub fn heads(queues: &Queues) -> [u8; CLASSES]
-    ensures { Heads queues.now.places.now queues.now.lens.now result }
+pub fn heads(places: &[u8; PLACES], lens: &[u8; CLASSES]) -> [u8; CLASSES]
+    ensures { Heads places.now lens.now result }
 {
     let mut heads = [SLOT_LIMIT; CLASSES];
-    for (c, len) in queues.lens.iter().enumerate() {
+    for (c, len) in lens.iter().enumerate() {
         if *len != 0 {
-            heads[c] = queues.places[CLASS_PLACES * c];
+            heads[c] = places[CLASS_PLACES * c];
         }
     }
     heads

@@ -3,7 +3,7 @@
 
 ghost use Rattle.site.specs.Held.{state_of, answer_of};
 ghost use Rattle.std.specs.Prelude.{◌≤◌};
-ghost use Rattle.arrayvec.specs.ArrayVec.{array_vec_len};
+ghost use Rattle.line.specs.Text.{written, RestZero};
 ghost use Rattle.event.specs.Event.{read_by, Happened, Listed};
 ghost use Rattle.event.specs.Kinds.{KindOf, KindIn};
 
@@ -89,7 +89,7 @@ pub fn happen(site: Site, committed: &mut [u32], working: &mut [u32], bytes: &[u
 }
 
 // An event's line, and the site to go on with.
-#[derive(Drop)]
+#[derive(Clone, Copy)]
 pub struct Done {
     pub site: Site,
     pub line: Line,
@@ -103,8 +103,9 @@ pub fn answer_event(
     place: u64,
     bytes: &[u8],
 ) -> Done
-    ensures listed { Listed (state_of site committed.old working.old) place bytes.now (state_of result.site committed.new working.new) result.line.items }
-    ensures len_bound { array_vec_len result.line ≤ 144 }
+    ensures listed { Listed (state_of site committed.old working.old) place bytes.now (state_of result.site committed.new working.new) (written result.line) }
+    ensures len_bound { result.line.len ≤ 144 }
+    ensures rest { RestZero result.line }
 {
     let reply = happen(site, committed, working, bytes);
     Done {

@@ -10,7 +10,7 @@ ghost use Rattle.text.specs.Calls as T;
 ghost use Rattle.site.specs.Held.{store, state_of, answer_of};
 ghost use Rattle.host.specs.Told.{told, shown, told_fresh, told_text, Told, ToldWork, ToldFresh, ToldText, Readable, bad_line_of};
 
-use cells::CELLS;
+use cells::{CELLS, copy_cells};
 use site::{Answer, Refusal, Site};
 use text::Refused;
 
@@ -202,7 +202,7 @@ fn show(answer: Answer, committed: &[u32], class: u64, entry: &mut [u32; CELLS])
         Answer::Entry { .. } => {
             let a = CELLS * (class as usize);
             let b = a + CELLS;
-            entry.copy_from_slice(&committed[a..b]);
+            copy_cells(entry, &committed[a..b]);
         }
         _ => {}
     }

@@ -1,7 +1,8 @@
 -- A line of output, as document 01 has it: the event's place in the input, a word, numbers. Assumes nothing.
-use Rattle.std.specs.Prelude.{ℕ, List, [], ◌∷◌, ◌++◌}
+use Rattle.std.specs.Prelude.{ℕ, ◌-◌, ◌≡◌, List, [], ◌∷◌, ◌++◌, take, drop, replicate}
 use Rattle.decimal.specs.Decimal.{decimal, blanked}
 use Rattle.plain.specs.Steps.{Answer, refused, queued, stepped, executed, committed, waiting, value, to_do, unconfirmed, begun, entry}
+use Rattle.line.specs.declared.Line.{Line}
 
 -- the words, in ASCII
 abbrev pub word_of : Answer → List ℕ
@@ -38,3 +39,11 @@ line_with place word ns = decimal place ++ (32 ∷ word) ++ blanked ns ++ (10 �
 -- the line of an answer to the event at a place
 abbrev pub line_of : ℕ → Answer → List ℕ
 line_of place a = line_with place (word_of a) (numbers_of a)
+
+-- what stands in a line
+abbrev pub written : Line → List ℕ
+written l = take l.len l.bytes
+
+-- behind it every byte is zero
+abbrev pub RestZero : Line → Type 0
+RestZero l = drop l.len l.bytes ≡ replicate (144 - l.len) 0

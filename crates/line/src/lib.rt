@@ -5,19 +5,49 @@ ghost use Rattle.std.specs.Prelude.{◌+◌, ◌*◌, ◌≤◌, ◌≡◌, [], 
 ghost use Rattle.arrayvec.specs.ArrayVec.{array_vec_len};
 ghost use Rattle.site.specs.Held.{answer_of};
 ghost use Rattle.decimal.specs.Decimal.{decimal};
-ghost use Rattle.line.specs.Text.{line_with, line_of};
+ghost use Rattle.line.specs.Text.{line_with, line_of, written, RestZero};
 
 use arrayvec::ArrayVec;
+use decimal::put;
 use site::Answer;
 
 // A line so far: the longest has 144 bytes.
-pub type Line = ArrayVec<u8, 144>;
+type Text = ArrayVec<u8, 144>;
+
+// A line: the first len of the bytes. Those behind are zero.
+// kept: a length beside the bytes, since a line can be copied, and an ArrayVec cannot.
+#[derive(Clone, Copy)]
+pub struct Line {
+    pub bytes: [u8; 144],
+    pub len: usize,
+}
+
+impl Line {
+    // What stands in a line.
+    pub fn as_slice(&self) -> &[u8]
+        ensures { result.now ≡ written self.now }
+    {
+        &self.bytes[..self.len.min(144)]
+    }
+}
+
+// The line of a text that is whole.
+fn line_with_text(text: &Text) -> Line
+    ensures result_value { written result ≡ text.now.items }
+    ensures len_bound { result.len ≤ 144 }
+    ensures rest { RestZero result }
+{
+    let mut bytes = [0; 144];
+    let len = put(&mut bytes, 0, text.as_slice());
+    Line { bytes, len }
+}
 
 // The line that an answer to the event at a place gives.
 // kept: no Display, by a rule of the project: the words are fixed byte strings, written into the line.
 pub fn line_of(place: u64, answer: Answer) -> Line
-    ensures result_value { result.items ≡ line_of place (answer_of answer []) }
-    ensures len_bound { array_vec_len result ≤ 144 }
+    ensures result_value { written result ≡ line_of place (answer_of answer []) }
+    ensures len_bound { result.len ≤ 144 }
+    ensures rest { RestZero result }
 {
     match answer {
         Answer::Refused(n) => whole(place, b"refused", &[n as u64]),
@@ -61,10 +91,11 @@ pub fn line_of(place: u64, answer: Answer) -> Line
 fn whole(place: u64, word: &[u8], numbers: &[u64]) -> Line
     requires word_len_bound { length word.now ≤ 11 }
     requires numbers_len_bound { length numbers.now ≤ 5 }
-    ensures result_value { result.items ≡ line_with place word.now numbers.now }
-    ensures len_bound { array_vec_len result ≤ 144 }
+    ensures result_value { written result ≡ line_with place word.now numbers.now }
+    ensures len_bound { result.len ≤ 144 }
+    ensures rest { RestZero result }
 {
-    let mut line = Line::new();
+    let mut line = Text::new();
     put_number(&mut line, place);
     line.push(b' ');
     line.try_extend_from_slice(word).unwrap();
@@ -73,11 +104,11 @@ fn whole(place: u64, word: &[u8], numbers: &[u64]) -> Line
         put_number(&mut line, *number);
     }
     line.push(b'\n');
-    line
+    line_with_text(&line)
 }
 
 // Puts a number's decimal digits, at most 20, behind a line.
-fn put_number(line: &mut Line, number: u64)
+fn put_number(line: &mut Text, number: u64)
     requires { array_vec_len line.old + 20 ≤ 144 }
     ensures line_after { line.new.items ≡ line.old.items ++ decimal number }
     ensures len_bound { array_vec_len line.new ≤ array_vec_len line.old + 20 }

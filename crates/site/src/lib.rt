@@ -18,9 +18,10 @@ mod waiting;
 mod work;
 
 use cells::RUN;
+pub use checks::SLOTS;
 use checks::{
-    CLASS_PLACES, Owners, PLACES, QUERIES, SLOT_LIMIT, SLOTS, cells_ok, gather_owners,
-    gather_stages, laid_out,
+    CLASS_PLACES, Owners, PLACES, QUERIES, SLOT_LIMIT, cells_ok, gather_owners, gather_stages,
+    laid_out,
 };
 use kept::{KEPT, kept_ok};
 use queries::Query;
@@ -158,8 +159,8 @@ impl Site {
     {
         let top = (self.confirmations as u64) + (self.begun as u64);
         match &gather_owners(self.slots, top) {
-            Some(owners) => self.heads_given(owners),
-            None => None,
+            Ok(owners) => self.heads_given(owners),
+            Err(_) => None,
         }
     }
 
@@ -185,6 +186,7 @@ impl Site {
             self.confirmations,
             self.commits,
         )
+        .ok()
     }
 
     // What every call begins with: the cells are right and the site sound, or why it is refused.

@@ -7,7 +7,7 @@ ghost use Rattle.slots.specs.Rules.{Holds};
 ghost use Rattle.slots.specs.Steps.{carried_at, ran_to, Marked, StepDone, RanOn, HeadOk};
 
 use super::Slot;
-use cells::{CELLS, carry};
+use cells::{CELLS, carry, copy_cells, same_cells};
 
 // The slot's operation k, on cells of its class. Its place, from 1, if it declines, and then it leaves them; else 0.
 // kept: no Option, since 0 for none is what the slot stores, and C reads it there.
@@ -34,7 +34,7 @@ pub fn step(mut v: Slot, from: &[u32], cells: &mut [u32]) -> Slot
         let mark = carry_at(v, k, cells);
         v.mark = mark;
         if mark != 0 {
-            cells.copy_from_slice(from);
+            copy_cells(cells, from);
         }
     }
     v
@@ -56,11 +56,11 @@ pub fn run_done(v: Slot, from: &[u32]) -> Ran
         mark: 0,
         cells: [0; CELLS],
     };
-    ran.cells.copy_from_slice(from);
+    copy_cells(&mut ran.cells, from);
     for k in 0..v.done {
         ran.mark = carry_at(v, k, &mut ran.cells);
         if ran.mark != 0 {
-            ran.cells.copy_from_slice(from);
+            copy_cells(&mut ran.cells, from);
             return ran;
         }
     }
@@ -76,5 +76,5 @@ pub fn head_ok(v: Slot, from: &[u32], working: &[u32]) -> bool
         return false;
     }
     let ran = run_done(v, from);
-    ran.mark == v.mark && working == &ran.cells[..]
+    ran.mark == v.mark && same_cells(working, &ran.cells)
 }

@@ -7,4 +7,4 @@ part-size : (a : ℕ) → a + cell_count - a ≡ cell_count
 part-size a = omega arith
 
 pub returns : goal.returns
-returns c = rw (c.copy_from_slice.ensures.after, part-size)
+returns c = rw (c.copy_cells.ensures, part-size)

@@ -5,4 +5,4 @@ use Rattle.event.proofs.answer_event.Goals as goal
 
 pub returns : goal.returns
 returns c =
-    let happen = c.happen-reply in record { listed = record { answer = _; happened = happen.ensures; says = c.line_of.ensures.result_value ∙ same_line _ happen.result.answer _ }; len_bound = c.line_of.ensures.len_bound }
+    let happen = c.happen-reply in record { listed = record { answer = _; happened = happen.ensures; says = c.line_of.ensures.result_value ∙ same_line _ happen.result.answer _ }; len_bound = c.line_of.ensures.len_bound; rest = c.line_of.ensures.rest }

@@ -18,7 +18,7 @@ pub returns-in-Entry : goal.returns-in-Entry
 returns-in-Entry c =
     let args = c.args in
     let e : 64 * args.class + 64 - 64 * args.class ≡ 64 = omega arith in
-    shown_entry args.answer _ _ _ _ c.in-Entry.is (rw e at c.copy_from_slice.ensures.after)
+    shown_entry args.answer _ _ _ _ c.in-Entry.is (rw e at c.copy_cells.ensures)
 
 pub returns-in_default : goal.returns-in_default
 returns-in_default c = shown_other c.args.answer _ _ c.in_default.not-Entry

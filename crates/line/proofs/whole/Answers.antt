@@ -56,6 +56,7 @@ loop-number-preserved c =
 
 pub returns : goal.returns
 returns c = record {
-  result_value = ended _ _ _ _ _ c.loop-number.number-index c.loop-number-test.false c.loop-number.invariant.0 c.push-2.ensures.items;
-  len_bound = omega (arith, c.loop-number.invariant.1, c.push-2.ensures.len, c.requires.numbers_len_bound, c.loop-number.auto.number-index-end);
+  result_value = c.line_with_text.ensures.result_value ∙ ended _ _ _ _ _ c.loop-number.number-index c.loop-number-test.false c.loop-number.invariant.0 c.push-2.ensures.items;
+  len_bound = c.line_with_text.ensures.len_bound;
+  rest = c.line_with_text.ensures.rest;
 }

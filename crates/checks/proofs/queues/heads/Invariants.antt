@@ -2,4 +2,4 @@ use Rattle.store.proofs.Cells.{HeadsTo}
 use Rattle.checks.proofs.queues.heads.Given as goal
 
 abbrev pub invariant-loop-c : goal.invariant-loop-c
-invariant-loop-c l = HeadsTo l.queues.places.now l.queues.lens.now l.heads l.c
+invariant-loop-c l = HeadsTo l.places l.lens l.heads l.c

@@ -20,4 +20,4 @@ returns-clause-decides c =
     let s = store c.args.self in
     let g = gathered s c.requires.owned c.gather_stages-stages.ensures in
     let ok = slots_ok s _ c.requires.in_order in
-    decides_as (λ laid. (ok.0, ok.1, laid, (kept_is s g c.kept_ok.ensures).yes c.if-not-kept_ok.false)) (λ h. h.2) (laid_is s g c.laid_out.ensures.decides)
+    rw c.ok.ensures.variant (decides_as (λ laid. (ok.0, ok.1, laid, (kept_is s g c.kept_ok.ensures).yes c.if-not-kept_ok.false)) (λ h. h.2) (laid_is s g c.laid_out.ensures.decides))

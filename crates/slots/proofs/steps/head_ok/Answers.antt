@@ -1,11 +1,19 @@
 -- Each rule of a head is tested, the mark and the cells against those of a run of its done operations. Assumes nothing.
 use native.Mathlib.Omega.{arith}
-use mathlib.Core.Path.{sym, ◌∙◌}
+use mathlib.Core.Path.{◌≡◌, sym, ◌∙◌}
 use mathlib.Core.Logic.{inl, inr}
-use Rattle.plain.proofs.Deciding.{decides_as, decides_eq, decides_pointwise}
+use lib.ListN.{length}
+use borrow.Author.Rules.{rules}
+use Rattle.plain.specs.Sizes.{cell_count}
+use Rattle.plain.proofs.Deciding.{decides_as}
 use Rattle.slots.proofs.Shape.{seven}
 use Rattle.slots.proofs.Records.{ops_count}
 use Rattle.slots.proofs.steps.head_ok.Goals as goal
+
+pub same_cells-requires : goal.same_cells-requires
+same_cells-requires c =
+    let n : length c.run_done-ran.result.cells ≡ cell_count = search rules in
+    c.requires.1 ∙ sym n
 
 pub returns-then-ran-v : goal.returns-then-ran-v
 returns-then-ran-v c =
@@ -20,4 +28,4 @@ returns-then-ran-v c =
       cells = e ∙ r.cells;
     })
     (λ h. h.cells ∙ sym r.cells)
-    (rw c.eq.ensures (decides_pointwise decides_eq c.args.working.now c.run_done-ran.result.cells))
+    c.same_cells.ensures

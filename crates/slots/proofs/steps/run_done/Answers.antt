@@ -19,7 +19,7 @@ returns-then-ran-ne0 c =
     let good = seven v _ c.well_formed.0 in
     let more = one_more v good c.requires.1 base loop.k (omega arith) loop.ran.cells loop.invariant.0 in
     let n = stays_declined v good c.requires.1 base loop.k (omega arith) v.done m (omega arith) (more ∙ carry.ensures.cells_value ∙ rw r) in
-    record { mark_is = rw n; cells = rw n c.copy_from_slice-then-ran-ne0.ensures.after }
+    record { mark_is = rw n; cells = rw n c.copy_cells-then-ran-ne0.ensures }
 
 pub loop-k-preserved : goal.loop-k-preserved
 loop-k-preserved c =
